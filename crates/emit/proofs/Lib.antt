@@ -1,0 +1,11 @@
+pub mod Markers
+pub mod Basics
+pub mod StateLaws
+pub mod LoopLaws
+pub mod ErrorLaws
+pub mod FunctionLaws
+pub mod CodeLaws
+pub mod ConstLaws
+pub mod NameLaws
+pub mod VisitLaws
+pub mod PartLaws

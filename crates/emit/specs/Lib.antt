@@ -1,0 +1,5 @@
+pub mod Sim
+pub mod Does
+pub mod Flows
+pub mod Sinks
+pub mod Access

@@ -1,0 +1,59 @@
+-- The loop ends with the text. Assumes nothing.
+use native.Mathlib.Omega.{arith}
+use Prim.Native.Nat.{_-_}
+use lib.ListN.{length}
+use Rattle.names_test.proofs.number.Statement.{statement}
+use Rattle.names_test.proofs.number.Tie as tie
+
+abbrev Inv-loop : tie.InvT-loop
+Inv-loop text from value₀ at₀ value at = Unit {0}
+
+abbrev μ-loop : tie.MeasureT-loop
+μ-loop text from value₀ at₀ value at = length text - at
+
+digit-from-requires : tie.Need-digit-from-requires Inv-loop μ-loop
+digit-from-requires c κs = tt
+
+loop-holds : tie.Need-loop-holds Inv-loop μ-loop
+loop-holds c = tt
+
+shared-slice-read-b : tie.Need-shared-slice-read-b Inv-loop μ-loop
+shared-slice-read-b c = omega arith
+
+is-digit-requires : tie.Need-is-digit-requires Inv-loop μ-loop
+is-digit-requires c κs = tt
+
+returns : tie.Need-returns Inv-loop μ-loop
+returns c = tt
+
+longer-requires : tie.Need-longer-requires Inv-loop μ-loop
+longer-requires c κs = tt
+
+add-at : tie.Need-add-at Inv-loop μ-loop
+add-at c = omega arith
+
+loop-less : tie.Need-loop-less Inv-loop μ-loop
+loop-less c = omega arith
+
+loop-again : tie.Need-loop-again Inv-loop μ-loop
+loop-again c = tt
+
+returns-2 : tie.Need-returns-2 Inv-loop μ-loop
+returns-2 c = tt
+
+pub number-spec : {M : Type 1} → statement M
+number-spec =
+    tie.close
+    (tie.spec
+    Inv-loop
+    μ-loop
+    digit-from-requires
+    loop-holds
+    shared-slice-read-b
+    is-digit-requires
+    returns
+    longer-requires
+    add-at
+    loop-less
+    loop-again
+    returns-2)

@@ -1,0 +1,5 @@
+pub mod Every
+pub mod Names
+pub mod Numbers
+pub mod Rules
+pub mod Table

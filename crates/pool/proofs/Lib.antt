@@ -1,0 +1,13 @@
+pub mod EffectLaws
+pub mod WordLaws
+pub mod SearchLaws
+pub mod ConstsLaws
+pub mod TableLaws
+pub mod LaidLaws
+pub mod NameSearch
+pub mod NameLayout
+pub mod NameTables
+pub mod NameTurns
+pub mod NameSpans
+pub mod NameUpto
+pub mod NamesLaws

@@ -1,0 +1,12 @@
+pub mod Marker
+pub mod Step
+pub mod Arms
+pub mod Patterns
+pub mod Kinds
+pub mod Run
+pub mod Out
+pub mod Around
+pub mod Counts
+pub mod MarkerCount
+pub mod Demand
+pub mod Cases

@@ -1,0 +1,20 @@
+use mathlib.Core.Path.{refl, sym, _∙_}
+use borrow.Author.Tests.{eq-eqb, ne-eqb}
+use borrow.Author.Needs.{needs}
+use Rattle.tables.proofs.numbering.caller.Statement.{statement}
+use Rattle.tables.proofs.numbering.caller.Tie as tie
+
+kind-requires : tie.Need-kind-requires
+kind-requires c κs = search needs
+
+plus-requires : tie.Need-plus-requires
+plus-requires c κs = search needs
+
+returns : tie.Need-returns
+returns c = c .plus .ensures ∙ rw (eq-eqb _ 30 (sym (c .before .before .kind .ensures) ∙ c .before .if1 .taken)) refl
+
+returns-2 : tie.Need-returns-2
+returns-2 c = rw (ne-eqb _ 30 (λ z. c .if1 .left (c .before .kind .ensures ∙ z)))
+
+pub caller-spec : {M : Type 1} → statement M
+caller-spec = tie.close (tie.spec kind-requires plus-requires returns returns-2)

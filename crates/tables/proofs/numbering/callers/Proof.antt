@@ -1,0 +1,98 @@
+use mathlib.Core.Path.{_≡_, refl, subst}
+use Prim.Native.Nat.{_-_, _≤_}
+use native.Mathlib.Omega.{arith}
+use borrow.Author.Needs.{needs}
+use Rattle.tables.specs.Record.{size}
+use Rattle.tables.specs.Naming.{Joined}
+use Rattle.tables.specs.Scratch.{Handed}
+use Rattle.tables.proofs.HandLaws.{handed-zeros, handed-more}
+use Rattle.tables.specs.Counting.{caller-down}
+use Rattle.tables.proofs.CountLaws.{caller-turn}
+use Rattle.tables.proofs.numbering.callers.Statement.{statement}
+use Rattle.tables.proofs.numbering.callers.Tie as tie
+
+abbrev Inv-loop : tie.InvT-loop
+Inv-loop recs n all left up base a₀ i₀ a i = (i ≤ n) × (n ≡ size recs → Joined recs → Handed (caller-down recs all left up base) recs 0 i a)
+
+abbrev μ-loop : tie.MeasureT-loop
+μ-loop recs n all left up base a₀ i₀ a i = n - i
+
+words-requires : tie.Need-words-requires Inv-loop μ-loop
+words-requires c κs = tt
+
+loop-holds : tie.Need-loop-holds Inv-loop μ-loop
+loop-holds c = (search needs, λ e j. handed-zeros _ _ 0 refl _ (c .words .ensures))
+
+mul-v : tie.Need-mul-v Inv-loop μ-loop
+mul-v c = search needs
+
+array-read-v : tie.Need-array-read-v Inv-loop μ-loop
+array-read-v c = search needs
+
+start-requires : tie.Need-start-requires Inv-loop μ-loop
+start-requires c κs = (c .before .before .before .before .pre .1, omega arith)
+
+caller-requires : tie.Need-caller-requires Inv-loop μ-loop
+caller-requires c κs = tt
+
+first-requires : tie.Need-first-requires Inv-loop μ-loop
+first-requires c κs = tt
+
+hand-requires : tie.Need-hand-requires Inv-loop μ-loop
+hand-requires c κs = tt
+
+next-requires : tie.Need-next-requires Inv-loop μ-loop
+next-requires c κs = tt
+
+hand-requires-2 : tie.Need-hand-requires-2 Inv-loop μ-loop
+hand-requires-2 c κs = tt
+
+add-i : tie.Need-add-i Inv-loop μ-loop
+add-i c = omega arith
+
+loop-less : tie.Need-loop-less Inv-loop μ-loop
+loop-less c = omega arith
+
+loop-again : tie.Need-loop-again Inv-loop μ-loop
+loop-again c =
+    let c4 = c .before .before .before .before in let c6 = c4 .before .before in let c7 = c6 .before in let c9 = c7 .before .before in
+    let c12 = c9 .before .before .before in
+    let l = c9 .loop in
+    let s = c12 .args in (
+      omega arith,
+      λ e j.
+          handed-more (caller-down (s .recs .now) (s .all .now) (s .left .now) (s .up .now) (s .base .now)) _ _ j (c12 .pre .1) (l .a) _ _ (l .i) _ _ _ _
+          (omega arith) (l .inv .1 e j)
+          (c4 .first .ensures) refl (caller-turn (s .recs .now) (s .all .now) (s .left .now) (s .up .now) (s .base .now) (l .i) _ _ _ (c7 .start .ensures)
+          (c6 .caller .ensures)) (c .before .before .before .hand .ensures) (c .before .next .ensures) (c .hand2 .ensures),
+    )
+
+returns : tie.Need-returns Inv-loop μ-loop
+returns c =
+    let c4 = c .before .before .before .before in
+    λ e j.
+    let l = c .before .loop in
+    let z : l .i ≡ c4 .args .n = omega arith in
+    subst (λ x. Handed (caller-down (c4 .args .recs .now) (c4 .args .all .now) (c4 .args .left .now) (c4 .args .up .now) (c4 .args .base .now))
+    (c4 .args .recs .now) 0 x (l .a)) z (l .inv .1 e j)
+
+pub callers-spec : {M : Type 1} → statement M
+callers-spec =
+    tie.close
+    (tie.spec
+    Inv-loop
+    μ-loop
+    words-requires
+    loop-holds
+    mul-v
+    array-read-v
+    start-requires
+    caller-requires
+    first-requires
+    hand-requires
+    next-requires
+    hand-requires-2
+    add-i
+    loop-less
+    loop-again
+    returns)

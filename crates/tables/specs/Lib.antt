@@ -1,0 +1,16 @@
+pub mod Record
+pub mod Forest
+pub mod Refusal
+pub mod Place
+pub mod Semantic
+pub mod Lent
+pub mod Entries
+pub mod Details
+pub mod Links
+pub mod Children
+pub mod Naming
+pub mod Nesting
+pub mod Scratch
+pub mod Numbering
+pub mod Counting
+pub mod Check

@@ -1,0 +1,66 @@
+"""What a set of cases has reached, as a table."""
+
+import collections
+
+from model.shape import DETAILS
+from model.words import *
+
+
+class Coverage:
+    def __init__(self):
+        self.count = collections.Counter()
+
+    def add(self, words, answer, refused):
+        """Counts a case by its records and the model's Answer or Refused."""
+        self.count["cases"] += 1
+        if refused is not None:
+            self.count["refusal", refused.number] += 1
+            if refused.number < 10:
+                return
+        for r in range(0, len(words[7]), 8):
+            kind, detail = words[7][r:r + 2]
+            self.count["kind", kind] += 1
+            if kind in DETAILS:
+                self.count["detail", kind, detail] += 1
+        if answer is not None:
+            self.count["listings"] += 1
+            for stream in answer.streams:
+                for code, _ in stream.markers:
+                    self.count["opcode", code] += 1
+                for constant in stream.constants:
+                    self.count["constant", constant[0]] += 1
+                for capture, _ in stream.names.captures:
+                    self.count["capture", capture] += 1
+            for error in answer.errors:
+                self.count["error", error[0]] += 1
+
+    def lines(self):
+        count = self.count
+        yield f"cases {count['cases']}, listings {count['listings']}"
+        yield ""
+        yield "kind, its records, and per detail where details are told apart:"
+        for kind, name in KIND_NAMES.items():
+            details = " ".join(f"{d}:{count['detail', kind, d]}" for d in DETAILS.get(kind, ()))
+            yield f"  {kind:2} {name:13} {count['kind', kind]:8}  {details}".rstrip()
+        yield "opcode:"
+        for code, name in enumerate(OPCODES):
+            yield f"  {code:2} {name:17} {count['opcode', code]:8}"
+        for title, key, names in [("constant", "constant", enumerate(CONSTANTS)),
+                                  ("capture", "capture", [(1, "Local"), (2, "Upvalue")]),
+                                  ("error", "error", enumerate(ERRORS))]:
+            yield f"{title}: " + ", ".join(f"{name} {count[key, n]}" for n, name in names)
+        yield "refusal: " + ", ".join(f"{n}: {count['refusal', n]}" for n in range(1, 17))
+
+    def missing(self):
+        """What no case has reached; PopJumpIfTrue can't be (reading 24), 2 is no matter of
+        tables."""
+        count = self.count
+        out = [f"kind {kind}" for kind in KIND_NAMES if not count["kind", kind]]
+        out += [f"detail {d} of {KIND_NAMES[kind]}" for kind, details in DETAILS.items()
+                for d in details if not count["detail", kind, d]]
+        out += [f"opcode {name}" for code, name in enumerate(OPCODES)
+                if not count["opcode", code] and name != "PopJumpIfTrue"]
+        out += [f"constant {name}" for n, name in enumerate(CONSTANTS) if not count["constant", n]]
+        out += [f"error {name}" for n, name in enumerate(ERRORS) if not count["error", n]]
+        out += [f"refusal {n}" for n in range(1, 17) if n != 2 and not count["refusal", n]]
+        return out

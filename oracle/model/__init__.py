@@ -1,0 +1,5 @@
+"""A model of document 01 in plain Python: the refusals, the run, genlist's text.
+
+Written from document 01 and the numbered readings of its open points ('reading N').
+It shares no code with the generator that it stands beside.
+"""

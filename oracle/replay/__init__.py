@@ -1,0 +1,1 @@
+"""Replay data for the tables checker and the name tables."""
