@@ -6,6 +6,8 @@ use Prim.Native.Nat.{ℕ, zero, suc, _+_, _*_, _≤_, _<_, min}
 use lib.ListN.{length, getD, set, take}
 use lib.Dec.{ltb}
 use Rattle.opcode.specs.declared.opcode.Words.{Words as MarkerWords}
+use Rattle.tables.specs.Record.{size}
+use Rattle.tables.specs.Forest.{next}
 use Rattle.pool.specs.Value.{Value, Const}
 use Rattle.pool.specs.Consts.{const-of, laid, put3, AllTold}
 use Rattle.pool.specs.Names.{Semantic, Access, load, store}
@@ -59,16 +61,22 @@ more-met n = cond (ltb n met-limit) (n + 1) n
 abbrev pub walk : Bool → Mode
 walk nest = record { nest = nest; trim = take 128 }
 
--- the shared tables
+-- the shared tables: lent ones, and the names' entries and spans and each record's earlier sibling, made from them
 pub record Lent : Type 0 where
   pub records : List ℕ
   pub symbols : List ℕ
   pub references : List ℕ
   pub entries : List ℕ
   pub spans : List ℕ
+  pub back : List ℕ
 
--- the names' entries and spans are those of the tables t
+abbrev pub lent : (records symbols references entries spans back : List ℕ) → Lent
+lent a b c d e f = record { records = a; symbols = b; references = c; entries = d; spans = e; back = f }
+
+-- the names' entries and spans are those of the tables t, each sibling's place in `back` holds the one before it, and a word can number the records
 pub record Scoped (t : Semantic) (e : Lent) : Type 0 where
+  pub small : size (e .records) < limit
+  pub backs : (c : ℕ) → (next (e .records) c ≡ 0 → ⊥) → getD (e .back) (next (e .records) c) 0 ≡ c
   pub loads : (f r : ℕ) → loadIn (e .references) (e .entries) (spanOf (e .spans) f) r ≡ load t f r
   pub stores : (f r : ℕ) → storeIn (e .symbols) (e .references) (e .entries) (spanOf (e .spans) f) r ≡ store t f r
 

@@ -7,4 +7,5 @@ pub mod function;
 pub mod label;
 pub mod loops;
 pub mod name;
+pub mod op;
 pub mod run;

@@ -1,0 +1,9 @@
+pub mod Back
+pub mod Call
+pub mod Demand
+pub mod Depth
+pub mod Listing
+pub mod Names
+pub mod Places
+pub mod Space
+pub mod Walks

@@ -1,0 +1,51 @@
+-- The loop ends with the words. Assumes nothing.
+use native.Mathlib.Omega.{arith}
+use Prim.Native.Nat.{_-_}
+use lib.ListN.{length}
+use Rattle.codegen_test.proofs.untouched.Statement.{statement}
+use Rattle.codegen_test.proofs.untouched.Tie as tie
+
+abbrev Inv-loop : tie.InvT-loop
+Inv-loop out from k₀ k = Unit {0}
+
+abbrev μ-loop : tie.MeasureT-loop
+μ-loop out from k₀ k = length out - k
+
+loop-holds : tie.Need-loop-holds Inv-loop μ-loop
+loop-holds c = tt
+
+mul-if1 : tie.Need-mul-if1 Inv-loop μ-loop
+mul-if1 c = omega arith
+
+shared-slice-read-if1 : tie.Need-shared-slice-read-if1 Inv-loop μ-loop
+shared-slice-read-if1 c = omega arith
+
+returns : tie.Need-returns Inv-loop μ-loop
+returns c = tt
+
+add-k : tie.Need-add-k Inv-loop μ-loop
+add-k c = omega arith
+
+loop-less : tie.Need-loop-less Inv-loop μ-loop
+loop-less c = omega arith
+
+loop-again : tie.Need-loop-again Inv-loop μ-loop
+loop-again c = tt
+
+returns-2 : tie.Need-returns-2 Inv-loop μ-loop
+returns-2 c = tt
+
+pub untouched-spec : {M : Type 1} → statement M
+untouched-spec =
+    tie.close
+    (tie.spec
+    Inv-loop
+    μ-loop
+    loop-holds
+    mul-if1
+    shared-slice-read-if1
+    returns
+    add-k
+    loop-less
+    loop-again
+    returns-2)

@@ -1,0 +1,5 @@
+pub mod ReadLaws
+pub mod TextLaws
+pub mod RowsLaws
+pub mod StringsLaws
+pub mod PrintLaws

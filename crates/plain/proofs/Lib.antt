@@ -1,0 +1,10 @@
+pub mod CountLaws
+pub mod LeafLaws
+pub mod ParamLaws
+pub mod GoLaws
+pub mod RunLaws
+pub mod PartSims
+pub mod ChoiceLaws
+pub mod MarkLaws
+pub mod EndLaws
+pub mod EndSims

@@ -1,0 +1,23 @@
+use mathlib.Core.Path.{sym, ap, _∙_}
+use Rattle.plain.proofs.ChoiceLaws.{emits-as}
+use borrow.Author.Needs.{needs}
+use Rattle.plain.proofs.choice.push_get.Statement.{statement}
+use Rattle.plain.proofs.choice.push_get.Tie as tie
+
+get-code-requires : tie.Need-get-code-requires
+get-code-requires c κs = search needs
+
+push-op-requires : tie.Need-push-op-requires
+push-op-requires c κs = search needs
+
+same-length : tie.Need-same-length
+same-length c = search needs
+
+returns : tie.Need-returns
+returns c =
+    let c2 = c .before .before in
+    let c4 = c2 .before .before in
+    emits-as (sym (c4 .get-code .ensures)) (c2 .push-op .ensures)
+
+pub push-get-spec : {M : Type 1} → statement M
+push-get-spec = tie.close (tie.spec get-code-requires push-op-requires same-length returns)

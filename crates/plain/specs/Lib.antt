@@ -1,0 +1,5 @@
+pub mod Leaves
+pub mod Parts
+pub mod Choice
+pub mod Ends
+pub mod Tail

@@ -1,0 +1,63 @@
+use mathlib.Core.Path.{_≡_}
+use Prim.Native.Nat.{_-_}
+use lib.ListN.{length}
+use borrow.Author.Needs.{needs}
+use Rattle.read_test.proofs.print_words.Statement.{statement}
+use Rattle.read_test.proofs.print_words.Tie as tie
+
+abbrev Inv-loop : tie.InvT-loop
+Inv-loop words count k₀ t4 k-end k = k-end ≡ length words
+
+abbrev μ-loop : tie.MeasureT-loop
+μ-loop words count k₀ t4 k-end k = k-end - k
+
+loop-holds : tie.Need-loop-holds Inv-loop μ-loop
+loop-holds c = search needs
+
+mul-wide : tie.Need-mul-wide Inv-loop μ-loop
+mul-wide c = search needs
+
+shared-slice-read-wide : tie.Need-shared-slice-read-wide Inv-loop μ-loop
+shared-slice-read-wide c = search needs
+
+wide-requires : tie.Need-wide-requires Inv-loop μ-loop
+wide-requires c κs = search needs
+
+print-requires : tie.Need-print-requires Inv-loop μ-loop
+print-requires c κs = search needs
+
+add-k : tie.Need-add-k Inv-loop μ-loop
+add-k c = search needs
+
+loop-less : tie.Need-loop-less Inv-loop μ-loop
+loop-less c = search needs
+
+loop-again : tie.Need-loop-again Inv-loop μ-loop
+loop-again c = search needs
+
+slice-aggregate-write-all : tie.Need-slice-aggregate-write-all Inv-loop μ-loop
+slice-aggregate-write-all c = search needs
+
+write-all-requires : tie.Need-write-all-requires Inv-loop μ-loop
+write-all-requires c κs = search needs
+
+returns : tie.Need-returns Inv-loop μ-loop
+returns c = search needs
+
+pub print-words-spec : {M : Type 1} → statement M
+print-words-spec =
+    tie.close
+    (tie.spec
+    Inv-loop
+    μ-loop
+    loop-holds
+    mul-wide
+    shared-slice-read-wide
+    wide-requires
+    print-requires
+    add-k
+    loop-less
+    loop-again
+    slice-aggregate-write-all
+    write-all-requires
+    returns)

@@ -1,0 +1,2 @@
+// The visitors: visit_expr and what it reaches.
+pub mod visit;
