@@ -6,6 +6,9 @@ from model.shape import DETAILS
 from model.words import *
 
 
+OUTCOMES = ["listing", "listing with errors", "refusal", "input"]
+
+
 class Coverage:
     def __init__(self):
         self.count = collections.Counter()
@@ -33,6 +36,28 @@ class Coverage:
                     self.count["capture", capture] += 1
             for error in answer.errors:
                 self.count["error", error[0]] += 1
+
+    def told(self, case):
+        """Counts a case by its answer, who says what it must be, and how its text was made."""
+        self.count["answer", case.outcome(), case.by()] += 1
+        self.count["way", case.way, case.outcome()] += 1
+
+    def answers(self):
+        """How many answers there were, and what each was held against."""
+        said = {"rust": "with the Rust's listing, byte for byte",
+                "panic": "with the model's, where the Rust panics as it should",
+                "model": "with the model's alone"}
+        for outcome in OUTCOMES:
+            count = {by: self.count["answer", outcome, by] for by in said}
+            parts = "; ".join(f"{n} {said[by]}" for by, n in count.items() if n)
+            yield f"{outcome}: {sum(count.values())}" + (f" ({parts})" if parts else "")
+
+    def ways(self):
+        """How texts were made, and what came of them."""
+        for way in sorted({key[1] for key in self.count if key[0] == "way"}):
+            count = [f"{self.count['way', way, outcome]} {outcome}" for outcome in OUTCOMES
+                     if self.count["way", way, outcome]]
+            yield f"  {way}: " + ", ".join(count)
 
     def lines(self):
         count = self.count

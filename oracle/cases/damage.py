@@ -27,7 +27,8 @@ def change_word(random, words, tables):
     table = random.choice(filled)
     at = random.randrange(len(words[table]))
     if table == 7:
-        at = at // 8 * 8 + random.choice(RECORD_WORDS)
+        # The last record may be a part one.
+        at = min(at // 8 * 8 + random.choice(RECORD_WORDS), len(words[7]) - 1)
     words[table][at] = some_value(random, words, table, at)
 
 
@@ -76,6 +77,20 @@ def other_parent(random, words, _tables):
     count = len(words[5]) // 2
     if count:
         words[5][2 * random.randrange(count)] = random.choice([NONE, random.randrange(count)])
+
+
+def odd(random, words):
+    """A copy with what runs against the Rust leave out: NaN, minus zero, a range that ends before it
+    starts."""
+    words = copy(words)
+    for r in range(0, len(words[7]) - 7, 8):
+        if words[7][r] in (1, 35) and random.random() < 0.5:
+            words[7][r + 1:r + 4] = random.choice(
+                [(3, 0, 1 << 31), (3, 0, 0), (3, 1, 0x7FF00000), (3, 0, 0x7FF80000),
+                 (3, 0, 0xFFF80000)])
+        elif random.random() < 0.2:
+            words[7][r + 4:r + 6] = (random.choice([5, NONE]), random.choice([0, 4]))
+    return words
 
 
 def damaged(random, words, faults=None, tables=(1, 2, 3, 4, 5, 6, 7, 7, 7, 7)):

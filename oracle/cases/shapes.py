@@ -15,8 +15,8 @@ def plain(root):
     return Program(root, [b"a", b"b"], [(0, 0), (1, 1)], [0, 1], members)
 
 
-def deep(random):
-    """One path down to level 128, of kinds that hold an expr or a Block."""
+def deep(random, levels=125):
+    """One path down to level 128 unless given, of kinds that hold an expr or a Block."""
     def wrap(node, left_over):
         choices = [
             (1, lambda: Node(3, children=[node])),
@@ -36,7 +36,7 @@ def deep(random):
         cost, made = random.choice([c for c in choices if c[0] <= left_over])
         return cost, made()
 
-    node, levels = null(), 126 - 1
+    node = null()
     while levels:
         cost, node = wrap(node, levels)
         levels -= cost
@@ -51,10 +51,10 @@ def near_128(random):
     return plain(function(node, null()))
 
 
-def deep_pattern(random):
-    """A pattern down to level 128."""
+def deep_pattern(random, levels=122):
+    """A pattern down to level 128 unless given."""
     node = Node(36, 0, random.randrange(2))
-    for _ in range(122):
+    for _ in range(levels):
         if random.random() < 0.5:
             node = Node(38, random.randrange(2), children=[Node(35), node])
         else:
@@ -116,11 +116,11 @@ def few_open_loops(random):
     return open_loops(random, 12)
 
 
-def captures(random):
+def captures(random, depth=41):
     """One Local held by functions nested as deep as they can be, some of them not holding it."""
     node = null()
     members = {}
-    for _ in range(41):
+    for _ in range(depth):
         inner = function(ident(0) if random.random() < 0.5 else null(), node)
         members[inner] = random.sample([0, 1, 2, 3], random.randint(0, 4))
         inner.children[1].children[0] = (
@@ -131,9 +131,9 @@ def captures(random):
     return Program(root, [b"x"], [(0, 0), (0, 0), (1, 0), (0, 0)], [0, 1, 2, 3], members)
 
 
-def wide(random):
+def wide(random, sizes=(100, 400, 900)):
     """Many children side by side: long lists, calls, matches, unpackings."""
-    n = random.choice([100, 400, 900])
+    n = random.choice(sizes)
     choices = [
         lambda: Node(8, children=[integer(i) for i in range(n)]),
         lambda: Node(7, children=[integer(i // 3) for i in range(2 * n)]),
@@ -151,6 +151,17 @@ def wide(random):
         lambda: block(*(Node(random.choice([19, 20]), start=i, end=i) for i in range(n))),
     ]
     return plain(function(random.choice(choices)(), parameters=params(ident(0), ident(1, 1))))
+
+
+def compact(random):
+    """A shape that is deep or wide for the 140 records of a text."""
+    return random.choice([
+        lambda: deep(random, random.choice([20, 40, 60])),
+        lambda: deep_pattern(random, random.choice([20, 40, 60, 65])),
+        lambda: captures(random, random.choice([3, 10, 25])),
+        lambda: wide(random, [10, 30, 40, 60, 65, 66, 67, 68, 130, 133, 134, 135, 136]),
+        lambda: open_loops(random, 30),
+    ])()
 
 
 def limits(_random=None):

@@ -41,11 +41,70 @@ def edits(root):
                 yield parent, before[:i] + [null()] + before[i + 1:], p
 
 
+class Tries:
+    """Asks whether something is still so, a number of times at most; then it says no."""
+
+    def __init__(self, still, count):
+        self.still, self.count = still, count
+
+    def __call__(self, given):
+        self.count -= 1
+        return self.count >= 0 and self.still(given)
+
+
+def fewer_lines(lines, still):
+    """Lines left out, many at first."""
+    size = len(lines) // 2
+    while size:
+        at = 0
+        while at < len(lines):
+            without = lines[:at] + lines[at + size:]
+            if still(b"\n".join(without)):
+                lines = without
+            else:
+                at += size
+        size //= 2
+    return lines
+
+
+def plainer_words(lines, still):
+    """Numbers put to 0, long lines cut in two."""
+    for at, line in enumerate(lines):
+        words = line.split(b" ")
+        shorter = [b" ".join(words[:i] + [b"0"] + words[i + 1:])
+                   for i, word in enumerate(words) if word.isdigit() and word != b"0"]
+        for new in [line[:len(line) // 2]] * (len(line) > 99) + shorter:
+            if still(b"\n".join(lines[:at] + [new] + lines[at + 1:])):
+                lines = lines[:at] + [new] + lines[at + 1:]
+                break
+    return lines
+
+
+def shrink_text(data, still, tries=1500):
+    """A smaller text of which `still` holds."""
+    still = Tries(still, tries)
+    again = True
+    while again and still.count > 0:
+        before = data
+        lines = fewer_lines(data.split(b"\n"), still)
+        data = b"\n".join(plainer_words(lines, still))
+        again = len(data) < len(before)
+    return data
+
+
+def fewer_names(program, still):
+    """Members left out, and strings, symbols and references from the last on."""
+    for share in [*program.members.values(), program.references, program.symbols, program.strings]:
+        for i in range(len(share) - 1, -1, -1):
+            taken = share.pop(i)
+            if not still(program.words()):
+                share.insert(i, taken)
+
+
 def shrink(words, still, tries=3000):
     """The smallest words found of which `still` holds; it must hold of these."""
     program = program_of(words)
-    best = program.words()
-    if not still(best):
+    if not still(program.words()):
         return words
     again = True
     while again and tries > 0:
@@ -54,11 +113,11 @@ def shrink(words, still, tries=3000):
             tries -= 1
             before = parent.children, parent.p
             parent.children, parent.p = children, p
-            smaller = program.words()
-            if still(smaller):
-                best, again = smaller, True
+            again = still(program.words())
+            if again:
                 break
             parent.children, parent.p = before
             if tries <= 0:
                 break
-    return best
+    fewer_names(program, Tries(still, 400))
+    return program.words()

@@ -10,6 +10,7 @@ NAMES = {1: "strings", 3: "symbols kind name", 4: "references symbol",
          7: "records kind detail p q start end first next"}
 ENTRIES = 140
 BYTES = 4096
+LONGEST = 262144     # bytes; a text of so many is too long (decision 52)
 
 NUMBERS = re.compile(rb"[0-9]+(?: +[0-9]+)*")
 HEXADECIMAL = re.compile(rb"(?:[0-9A-Fa-f]{2})+")
@@ -27,8 +28,11 @@ def values(line, count):
     """Numbers of a line, or None (reading 28)."""
     if not NUMBERS.fullmatch(line):
         return None
-    found = [int(word) for word in line.split()]
-    return found if len(found) == count and max(found) < 1 << 32 else None
+    digits = [word.lstrip(b"0") for word in line.split(b" ") if word]
+    if len(digits) != count or max(map(len, digits)) > 10:
+        return None
+    found = [int(word or b"0") for word in digits]
+    return found if max(found) < 1 << 32 else None
 
 
 def string(line):
@@ -39,6 +43,21 @@ def string(line):
 
 def read(text, limited=True):
     """Words of tables 1 to 7, or Input (reading 27)."""
+    if limited and len(text) >= LONGEST:
+        raise Input(too_long(text))
+    return read_lines(text, limited)
+
+
+def too_long(text):
+    """The first line that can't be read, or else that of byte 262,144."""
+    try:
+        read_lines(text[:LONGEST], True)
+    except Input as wrong:
+        return wrong.line
+    return text.count(b"\n", 0, LONGEST - 1) + 1
+
+
+def read_lines(text, limited):
     lines = text.split(b"\n")
     if lines[-1] == b"":
         lines.pop()

@@ -5,26 +5,12 @@
 //! With `--extra`, lines that begin with `#` follow: label counts, or where a panic arose.
 //! The tables are taken to pass refusals 1 to 9 of document 01.
 
-#![allow(dead_code, unused_imports)]
-
-#[path = "../gen/compiler/mod.rs"]
-mod compiler;
-#[path = "../gen/utils.rs"]
-mod utils;
-
-mod listing;
-mod run;
-mod tables;
-mod text;
-mod tree;
-
 use std::{
     io::{Read, Write},
     panic::{AssertUnwindSafe, catch_unwind},
 };
 
-// The name that the one edit of codegen.rs calls.
-pub(crate) use run::keep_stream;
+use oracle::run;
 
 /// Trees are visited by recursion, so the work has a thread with a deep stack.
 const STACK: usize = 256 << 20;

@@ -10,6 +10,8 @@ use crate::{
     compiler::{
         ast::Program,
         codegen::{CodeMarker, gen_code},
+        index::LabelId,
+        opcode::OpCode,
         semantic::Semantic,
     },
     listing::{Streams, listing, without_effect_records},
@@ -26,6 +28,21 @@ thread_local! {
 /// Called by codegen.rs in place of `ControlFlowGraph::from_bytecode`.
 pub(crate) fn keep_stream(function: usize, code: &[CodeMarker], labels: usize) {
     STREAMS.with_borrow_mut(|s| s.insert(function, (code.to_vec(), labels)));
+}
+
+/// A marker for other packages: an opcode, or a label's place.
+pub type Kept = Result<OpCode<LabelId>, LabelId>;
+
+/// The streams of the last `gen_code` on this thread, with their label counts, by function.
+pub fn kept() -> Vec<(Vec<Kept>, usize)> {
+    let kept = |marker: &CodeMarker| match *marker {
+        CodeMarker::OpCode(opcode) => Ok(opcode),
+        CodeMarker::Label(label) => Err(label),
+    };
+    STREAMS.with_borrow_mut(|streams| {
+        let streams = std::mem::take(streams);
+        streams.values().map(|(code, labels)| (code.iter().map(kept).collect(), *labels)).collect()
+    })
 }
 
 /// Keeps a panic's message and place instead of printing them.

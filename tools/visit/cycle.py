@@ -1,11 +1,12 @@
 #!/usr/bin/env python3
-"""Writes the proof modules of the visitors' cycle (crates/visit/proofs/visit) from the lines that a check prints, the generated Lts files and the answers.
+"""Writes the proof modules of the visitors' cycle (crates/visit/proofs/+..) from the lines that a check prints, the generated Lts files and the answers.
 
-From the repository's root, after the folder crates/visit/proofs/visit is removed:
+From the repository's root, after the folder crates/visit/proofs/+.. is removed:
   rt dev visit > target/visit.log
   rt dev visit --generated target/gen
   python3 tools/visit/cycle.py target/visit.log target/gen
 
+A checked module is stored in a file of its name, which has at most 255 bytes (docs/ARCHITECTURE.md, section 6); how many are left is printed.
 An answer names a thing by @thing (`@push-pop .ensures`); the ladder of `.before` to it is written here. A change of a visitor's code moves only these ladders.
 """
 import re, os, sys
@@ -14,10 +15,11 @@ from paths import parse
 LOG, GEN = sys.argv[1:3]
 ROOT = '.'
 text = open(LOG).read()
-CYC = re.search(r'proofs/visit/(\+\S+?)/Proof\.antt with these lines', text).group(1)
-BASE = f'Rattle.visit.proofs.visit.{CYC}'
-DIR = f'{ROOT}/crates/visit/proofs/visit/{CYC}'
+CYC = re.search(r'proofs/(\+\S+?)/Proof\.antt with these lines', text).group(1)
+BASE = f'Rattle.visit.proofs.{CYC}'
+DIR = f'{ROOT}/crates/visit/proofs/{CYC}'
 MEMBERS = CYC[1:].split('+')
+print('bytes left for the cycle\'s name:', 255 - max(len(f'{BASE}.Proof.{m}.oantt'.encode()) for m in MEMBERS))
 D = lambda n: ' .1' * n + ' .0'
 LENT = {m: (D(7), D(8)) for m in MEMBERS}
 S2 = (D(2), D(3))
@@ -50,7 +52,7 @@ def ladder(need_path, answer):
     return '\n      ' + '\n      '.join(lets + [body])
 
 def member(m, conf):
-    lts = f'{GEN}/Rattle.visit.proofs/proofs/visit/{CYC}/Lts-{m}.antt'
+    lts = f'{GEN}/Rattle.visit.proofs/proofs/{CYC}/Lts-{m}.antt'
     places, needs = parse(lts)
     def path(need):
         place, n, out = needs[need], 0, []
@@ -70,7 +72,7 @@ def member(m, conf):
     extra = ' Inv-loop μ-loop' if loop else ''
     out = [f'-- `visit::{m}` meets its contract at each measure. Assumes nothing.', 'use Prim.Native.Nat.{ℕ, _<_}', f'use {BASE}.Lts-{m} as lts']
     rd = sorted(set(re.findall(r'([a-z-]+-reads)\.', calls))); mem = set(re.findall(r'([a-z]+)-below', calls))
-    for k in sorted(mem | {m}): out.append(f'use Rattle.visit.proofs.visit.{k}.Reads as {k}')
+    for k in sorted(mem | {m}): out.append(f'use Rattle.visit.proofs.{k}.Reads as {k}')
     for k in rd: out.append(f'use {reads[k]} as {k}')
     out.append(f'use {BASE}.Proof.Base.{{{", ".join([m + "-at"] + [k + "-below" for k in sorted(mem)])}}}')
     body = ['', 'abbrev calls : ℕ → lts.Claims', f'calls t = ({calls})', '']
@@ -128,7 +130,7 @@ for m in sys.argv[3:] or MEMBERS:
     open(f'{DIR}/Proof/{m.capitalize()}.antt', 'w').write('\n'.join(x for l in text_of.split('\n') for x in wrap(l)))
 b = ['-- The measures of the visitors, and what each is given at the measure t and asks below it. Assumes nothing.', 'use Prim.Native.Nat.{ℕ, _<_}', 'use borrow.Fn.Kinds.{In}', 'use borrow.Fn.PlainCycle.{Measures, is, falls, and}',
      'use Rattle.tables.specs.Record.{size}', 'use Rattle.visit.proofs.FallLaws.{level, levelOr}']
-for m in MEMBERS: b += [f'use Rattle.visit.proofs.visit.{m}.Reads as {m}', f'use Rattle.visit.proofs.visit.{m}.Kinds as {m}-kinds']
+for m in MEMBERS: b += [f'use Rattle.visit.proofs.{m}.Reads as {m}', f'use Rattle.visit.proofs.{m}.Kinds as {m}-kinds']
 for m in MEMBERS:
     lv, rank, idx = a.RANK[m]; r = 'a' + ' .1' * idx + ' .0'
     b += ['', f'abbrev pub μ-{m} : Measures 8 {m}-kinds.ps ℕ', f'μ-{m} κs a = {lv} (size (a .1 .0 .now)) ({r}) {rank}',

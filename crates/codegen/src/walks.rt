@@ -1,8 +1,8 @@
 // The two walks: the whole tree with its functions where they stand, and one function by itself.
 use emit::run::Run;
 use rules::Flow;
-use visit::visit::body;
-use visit::visit::inside;
+use visit::body;
+use visit::inner;
 ghost use mathlib.Core.Path.{_≡_};
 ghost use Prim.Native.Nat.{_≤_, _<_};
 ghost use lib.ListN.{length};
@@ -46,7 +46,7 @@ pub(crate) fn whole(
         → Walked t (now (recs .entry)) (now (out .entry)) (now (out .exit)) s) ⌝ }
 {
     let mut none = [0u32; 0];
-    inside(
+    inner(
         true,
         recs,
         symbols,

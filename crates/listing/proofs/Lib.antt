@@ -1,5 +1,12 @@
 pub mod ReadLaws
 pub mod TextLaws
+pub mod LinesLaws
+pub mod PlacesLaws
 pub mod RowsLaws
 pub mod StringsLaws
+pub mod ReadingLaws
 pub mod PrintLaws
+pub mod PrintedLaws
+pub mod RoundTrip
+pub mod ReadSamples
+pub mod ReadFits

@@ -12,6 +12,7 @@ use lib.Dec.{ltb, eqb}
 use borrow.Author.Tests.{lt-ltb, le-ltb, ltb-true, ltb-false, eq-eqb, ne-eqb}
 use Rattle.opcode.specs.Names.{bytes, name, names, nameLen, foundLen}
 use Rattle.opcode.specs.declared.tables.NameLen.the-variants.{Found, Absent}
+use Rattle.listing.specs.Read.{valueFrom}
 use Rattle.listing.specs.Print.{wrote, Wrote, digits, digit, hexDigits, hexDigit, int, decimal, joined, rowsFrom}
 use Rattle.listing.specs.Print.{beginning, optional, headRow, headAt, loopsRow, codeRows, constRows}
 use Rattle.listing.specs.Print.{plainRows, upvalueRows, namesText, functionText, functionsText, errorRows, listingText}
@@ -389,25 +390,18 @@ with-room {text} {out} {new} {at} {to} w h =
     let e : _≡_ {A = List ℕ × ℕ} (new, to) (sets out at text, at + length text) = sym (w .by) ∙ room-sets text out at h in
     (ap (λ (s : List ℕ × ℕ). s .0) e ∙ sets-eq text out at h, ap (λ (s : List ℕ × ℕ). s .1) e)
 
--- the number that some decimal digits stand for, after the number before them
-pub valueFrom : ℕ → List ℕ → ℕ
-valueFrom n [] = n
-valueFrom n (b ∷ bs) = valueFrom (n * 10 + (b - 48)) bs
-
 value-append : (n : ℕ) (bs cs : List ℕ) → valueFrom n (bs ++ cs) ≡ valueFrom (valueFrom n bs) cs
-unfolding valueFrom
 value-append n [] cs = refl
 value-append n (b ∷ bs) cs = value-append (n * 10 + (b - 48)) bs cs
 
 value-step : (b : Bool) (n : ℕ) (bs : List ℕ) → ltb n 10 ≡ b → (10 ≤ n → valueFrom 0 bs ≡ n / 10)
     → valueFrom (valueFrom 0 (cond b [] bs)) (digit n ∷ []) ≡ n
-unfolding valueFrom
 value-step true n bs e h = let l : n < 10 = ltb-true n 10 e in omega arith
 value-step false n bs e h = let v : valueFrom 0 bs ≡ n / 10 = h (ltb-false n 10 e) in omega arith
 
 -- the digits of n stand for n, where so many hold it
 pub digits-value : (k n : ℕ) → n < 10 ^ k → valueFrom 0 (digits k n) ≡ n
-unfolding digits valueFrom
+unfolding digits
 digits-value zero n h = let l : n < 1 = h in omega arith
 digits-value (suc k) n h =
     let l : n < 10 ^ k * 10 = subst (λ (x : ℕ). n < x) (pow-suc 10 k) h in

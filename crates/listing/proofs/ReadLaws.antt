@@ -1,5 +1,5 @@
 -- Laws of genlist's reader: a run from a place on, and decimal values digit by digit.
-use mathlib.Core.Path.{_≡_, refl, sym, ap, _∙_}
+use mathlib.Core.Path.{_≡_, refl, sym, ap, subst, _∙_}
 use mathlib.Core.Bool.{Bool, true, false, cond, _&&_}
 use mathlib.Core.List.{List, [], _∷_, _++_, append-assoc, append-nil}
 use mathlib.Core.Option.{Option, none, some}
@@ -20,6 +20,15 @@ use Rattle.listing.specs.Read.{pairOf, run, isSpace, gap, put, whenOver,
 -- a list from a place on is its element there and the list after it
 pub at-place : (l : List ℕ) (i : ℕ) → i < length l → drop i l ≡ getD l i 0 ∷ drop (i + 1) l
 at-place l i h = drop-cons l i 0 h ∙ ap (λ (n : ℕ). getD l i 0 ∷ drop n l) (sym (add-one i))
+
+-- lists that agree from a place on agree further on
+pub agree-on : (n m : ℕ) (xs ys : List ℕ) → drop n xs ≡ drop n ys → drop (n + m) xs ≡ drop (n + m) ys
+agree-on n m xs ys e = sym (drop-drop m n xs) ∙ ap (drop m) e ∙ drop-drop m n ys
+
+pub agree-upto : (n m : ℕ) (xs ys : List ℕ) → n ≤ m → drop n xs ≡ drop n ys → drop m xs ≡ drop m ys
+agree-upto n m xs ys h e =
+    let s : n + (m - n) ≡ m = omega arith in
+    subst (λ (i : ℕ). drop i xs ≡ drop i ys) s (agree-on n (m - n) xs ys e)
 
 -- a run goes on
 pub run-on : (p : ℕ → Bool) (l : List ℕ) (i : ℕ) → i < length l → p (getD l i 0) ≡ true → run p (drop i l) ≡ suc (run p (drop (i + 1) l))

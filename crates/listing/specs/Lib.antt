@@ -1,3 +1,5 @@
 pub mod Read
-pub mod Rows
+pub mod Text
+pub mod Places
 pub mod Print
+pub mod Printed

@@ -99,11 +99,12 @@ valuesFrom k (suc n) bs =
 unfoldable pub valuesOf : ℕ → List ℕ → Option (List ℕ)
 valuesOf n bs = valuesFrom 0 n bs
 
--- what `values` says: it succeeds only with room; with room it stores the line's values from a place on, and nothing before it
+-- what `values` says: it succeeds only with room; with room it stores the line's values from a place on, nothing before it, and if it succeeds nothing after them
 pub record Stored (line : List ℕ) (count : ℕ) (out : List ℕ) (from : ℕ) (out′ : List ℕ) (t : Bool) : Type 0 where
   pub room : t ≡ true → from + count ≤ length out
   pub stored : from + count ≤ length out → valuesOf count line ≡ cond t (some (take count (drop from out′))) none
   pub before : take from out′ ≡ take from out
+  pub past : t ≡ true → drop (from + count) out′ ≡ drop (from + count) out
 
 -- a byte before those that follow, if all could be read
 abbrev pub putByte : Octet → Option (List ℕ) → Option (List ℕ)
@@ -127,9 +128,11 @@ isDash (b ∷ c ∷ bs) = false
 unfoldable pub stringOf : List ℕ → Option (List ℕ)
 stringOf bs = cond (isDash bs) (some []) (pairsOf bs)
 
--- what `hexadecimal` says: nothing before its place is changed; the string's bytes stand from there on, or there is no string, or no room for it
+-- what `hexadecimal` says: nothing before its place is changed; the string's bytes stand from there on and nothing after them is changed, or there is no
+-- string, or no room for it
 abbrev pub Kept : List ℕ → List ℕ → ℕ → List ℕ → Held → Type 0
 Kept line out from out′ (Bytes k) =
     (take from out′ ≡ take from out) × (from ≤ k) × (k - from ≤ length out - from) × (stringOf line ≡ some (take (k - from) (drop from out′)))
+    × (drop k out′ ≡ drop k out)
 Kept line out from out′ Unread =
     (take from out′ ≡ take from out) × ((bs : List ℕ) → stringOf line ≡ some bs → length out < from + length bs)

@@ -4,7 +4,8 @@ ghost use mathlib.Core.Bool.{true, false};
 ghost use Prim.Native.Nat.{_+_, _-_, _≤_, _<_};
 ghost use lib.ListN.{length, drop};
 ghost use Rattle.listing.specs.Read.{isDigit, decimalOf, nibbleOf, pairOf, run, gap, inLine, Stored, isDash, Kept};
-ghost use Rattle.listing.specs.Rows.{counted, stoppedAt, afterAt, namedAt, endedAt, Listed, blankAt, answerOf, Whole, Entered, Texted};
+ghost use Rattle.listing.specs.Places.{counted, stoppedAt, afterAt, namedAt, endedAt, Listed, blankAt, answerOf, Entered, Texted};
+ghost use Rattle.listing.specs.Text.{readOf, roomsOf, readingOf, Holds, Stays};
 
 const MOST: u64 = 4294967295;
 
@@ -335,7 +336,7 @@ fn ended(at: usize, line: usize, last: bool) -> Place
 
 // Table 1, of at most 140 strings.
 fn string_lines(text: &[u8], from: Place, strings: &mut [u32], bytes: &mut [u8]) -> Texts
-    ensures { λ r. ⌜ Texted (now (text .entry)) from (length (now (strings .entry))) (length (now (bytes .entry))) (now (strings .exit)) (now (bytes .exit)) r ⌝ }
+    ensures { λ r. ⌜ Texted (now (text .entry)) from (now (strings .entry)) (now (bytes .entry)) (now (strings .exit)) (now (bytes .exit)) r ⌝ }
 {
     let mut at = from.at;
     let mut line = from.line;
@@ -385,7 +386,7 @@ fn string_lines(text: &[u8], from: Place, strings: &mut [u32], bytes: &mut [u8])
 
 // A table of entries of so many values, at most so many words.
 fn lines(text: &[u8], from: Place, count: usize, most: usize, last: bool, out: &mut [u32]) -> Part
-    ensures { λ r. ⌜ Listed (now (text .entry)) from count most (length (now (out .entry))) last (now (out .exit)) r ⌝ }
+    ensures { λ r. ⌜ Listed (now (text .entry)) from count most last (now (out .entry)) (now (out .exit)) r ⌝ }
 {
     let mut at = from.at;
     let mut line = from.line;
@@ -424,7 +425,7 @@ fn lines(text: &[u8], from: Place, count: usize, most: usize, last: bool, out: &
 }
 
 fn table(text: &[u8], from: Place, count: usize, most: usize, last: bool, out: &mut [u32]) -> Part
-    ensures { λ r. ⌜ Listed (now (text .entry)) (namedAt (now (text .entry)) from) count most (length (now (out .entry))) last (now (out .exit)) r ⌝ }
+    ensures { λ r. ⌜ Listed (now (text .entry)) (namedAt (now (text .entry)) from) count most last (now (out .entry)) (now (out .exit)) r ⌝ }
 {
     lines(text, named(text, from), count, most, last, out)
 }
@@ -471,9 +472,15 @@ pub fn read(
     members: &mut [u32],
     records: &mut [u32],
 ) -> Reading
-    ensures { λ r. ⌜ Whole (now (text .entry)) (now (strings .entry)) (now (bytes .entry)) (now (symbols .entry)) (now (references .entry)) (now (functions .entry))
-        (now (members .entry)) (now (records .entry)) (now (strings .exit)) (now (bytes .exit)) (now (symbols .exit)) (now (references .exit))
-        (now (functions .exit)) (now (members .exit)) (now (records .exit)) r ⌝ }
+    ensures answer { λ r. ⌜ r ≡ readingOf (readOf (roomsOf (now (strings .entry)) (now (bytes .entry)) (now (symbols .entry)) (now (references .entry))
+        (now (functions .entry)) (now (members .entry)) (now (records .entry))) (now (text .entry))) ⌝ }
+    ensures tables { λ r. ⌜ Holds (readOf (roomsOf (now (strings .entry)) (now (bytes .entry)) (now (symbols .entry)) (now (references .entry))
+        (now (functions .entry)) (now (members .entry)) (now (records .entry))) (now (text .entry))) (now (strings .exit)) (now (bytes .exit))
+        (now (symbols .exit)) (now (references .exit)) (now (functions .exit)) (now (members .exit)) (now (records .exit)) ⌝ }
+    ensures rest { λ r. ⌜ Stays (readOf (roomsOf (now (strings .entry)) (now (bytes .entry)) (now (symbols .entry)) (now (references .entry))
+        (now (functions .entry)) (now (members .entry)) (now (records .entry))) (now (text .entry))) (now (strings .entry)) (now (bytes .entry))
+        (now (symbols .entry)) (now (references .entry)) (now (functions .entry)) (now (members .entry)) (now (records .entry)) (now (strings .exit))
+        (now (bytes .exit)) (now (symbols .exit)) (now (references .exit)) (now (functions .exit)) (now (members .exit)) (now (records .exit)) ⌝ }
 {
     let start = Place {
         at: 0,

@@ -10,10 +10,10 @@ use Rattle.tables.specs.Record.{Words, word, words}
 use Rattle.tables.specs.Forest.{Nodes, first, next, forest, children, own-tree, none, tree}
 use Rattle.pool.specs.Value.{str, child}
 use Rattle.pool.specs.Names.{Semantic}
-use Rattle.rules.specs.Marker.{Jump, PopJumpIfFalse, JumpPopIfNull, LoadConst, Copy, Swap, Label, To, Do, mark}
-use Rattle.rules.specs.Step.{Role, Expr, Get, Set, Step, say, put, take, place, jump, expr, null, width}
+use Rattle.rules.specs.Marker.{JumpPopIfNull, LoadConst, Copy, Swap, Label, To, Do, mark}
+use Rattle.rules.specs.Step.{Role, Expr, Get, Set, Step, say, put, place, jump, expr, width}
 use Rattle.rules.specs.Kinds.{Kind, kinds, steps-of, steps}
-use Rattle.rules.specs.Arms.{property, get-code, safe-jump, member-steps, method-steps, if-steps}
+use Rattle.rules.specs.Arms.{property, get-code, safe-jump, member-steps, method-steps}
 use Rattle.rules.specs.Run.{State, Spot, here, nowhere, number-of, spot-at, look, sought, labels, bump, emit, exec}
 use Rattle.emit.specs.Sim.{cap, Lent, Scoped, Outs, outs, Rep, Sim, Seeks}
 use Rattle.emit.specs.Access.{loaded, stored}
@@ -23,7 +23,6 @@ use Rattle.emit.proofs.Basics.{on-true, on-false}
 use Rattle.emit.proofs.StateLaws.{given}
 use Rattle.emit.proofs.NameLaws.{load-seeks, store-seeks}
 use Rattle.emit.proofs.VisitLaws.{spotted, spot-below, visit-none, visit-does}
-use Rattle.visit.specs.Arms.{other-steps}
 use Rattle.plain.specs.Tail.{Safe, safe-run}
 use Rattle.plain.specs.Leaves.{Loading}
 use Rattle.plain.specs.Parts.{repeated, Copies, registering}
@@ -175,26 +174,6 @@ module _ (recs : List ℕ) (nest : Bool) (f : ℕ) (t : Semantic) where
         safe-part (say Copy 1 ∷ property M K (say (get-code M) 0 ∷ say Swap 2 ∷ place 0 ∷ [])) (labels B ∷ []) (bump B)
         ∙ property-part M (say (get-code M) 0 ∷ say Swap 2 ∷ place 0 ∷ []) (labels B ∷ []) (emit (mark r (Do Copy 1)) (safe-run (W .detail) r (labels B) (bump
         B)))
-
-    -- If's two lists differ in one step
-    pub if-run : (A : State)
-        → does recs nest t f r (if-steps W K) A
-        ≡ (let l = labels A in let m = labels (bump A) in
-        emit (mark r (Label m)) (does recs nest t f r (other-steps W)
-        (emit (mark r (Label l)) (emit (mark r (To Jump m)) (near recs nest t f r Expr 1 (emit (mark r (To PopJumpIfFalse l)) (near recs nest t f r Expr 0
-        (bump (bump A)))))))))
-    unfolding part does exec
-    if-run A = go (eqb (W .detail) 1)
-      where
-        go : (b : Bool) → does recs nest t f r
-            (cond b (take ∷ take ∷ expr 0 ∷ jump PopJumpIfFalse 0 ∷ expr 1 ∷ jump Jump 1 ∷ place 0 ∷ expr 2 ∷ place 1 ∷ [])
-            (take ∷ take ∷ expr 0 ∷ jump PopJumpIfFalse 0 ∷ expr 1 ∷ jump Jump 1 ∷ place 0 ∷ null ∷ place 1 ∷ [])) A
-            ≡ (let l = labels A in let m = labels (bump A) in
-            emit (mark r (Label m)) (does recs nest t f r (cond b (expr 2 ∷ []) (null ∷ []))
-            (emit (mark r (Label l)) (emit (mark r (To Jump m)) (near recs nest t f r Expr 1 (emit (mark r (To PopJumpIfFalse l)) (near recs nest t f r Expr 0
-            (bump (bump A)))))))))
-        go true = refl
-        go false = refl
 
 -- ---- leaves and parts, for numbers that are the record's
 

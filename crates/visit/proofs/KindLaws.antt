@@ -71,7 +71,7 @@ use Rattle.plain.specs.Parts.{repeated, registering, registered}
 use Rattle.plain.specs.Ends.{callCount, iterate-run, over-run}
 use Rattle.plain.proofs.RunLaws.{says-part, registers-part, registered-at}
 use Rattle.plain.proofs.EndLaws.{child-words, for-targets-part}
-use Rattle.visit.specs.Runs.{unpacks, bodied, downs, hand-steps, items-steps}
+use Rattle.visit.specs.Runs.{unpacks, bodied, downs, hand-steps}
 use Rattle.visit.proofs.ArmLaws.{property-part}
 use Rattle.visit.proofs.RunLaws.{part-still, unpacked-part, bodies-part, down-part}
 
@@ -277,8 +277,9 @@ module _ (recs : List ℕ) (nest : Bool) (f : ℕ) (t : Semantic) (r : ℕ) wher
       for-targets-part recs nest t f r (W .p) (expr (suc (W .p)) ∷ say Pop 0 ∷ back 0 ∷ place 1 ∷ say Pop 0 ∷ null ∷ leave ∷ []) (l ∷ m ∷ k ∷ [])
       (iterate-run r l m k (near recs nest t f r Expr (W .p) (begin (walk nest .trim) (loop r l m) (bump (bump (bump A))))))
 
+  -- an Import's Items
   pub items-run : (A : State)
-      → does recs nest t f r (items-steps W K) A
+      → does recs nest t f r (visits Expr (W .p) (width K - W .p) (say Pop 0 ∷ null ∷ [])) A
       ≡ emit (mark r (Load LoadConst Null)) (emit (mark r (Do Pop 0)) (through recs nest t Expr f (width K - W .p) (nth recs (W .p) (first recs r)) A))
   unfolding does part exec
   items-run A = visits-part recs nest t f r Expr (W .p) (width K - W .p) (say Pop 0 ∷ null ∷ []) [] A

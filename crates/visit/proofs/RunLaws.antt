@@ -21,7 +21,7 @@ use Rattle.emit.specs.Sim.{walk}
 use Rattle.emit.specs.Flows.{isGo}
 use Rattle.emit.specs.Sinks.{emit-if}
 use Rattle.emit.specs.Does.{nth, visit-at, own-stream, near, part, does, through, items}
-use Rattle.emit.proofs.Basics.{clash, on-false}
+use Rattle.emit.proofs.Basics.{clash, on-false, no-emit, no-kept}
 use Rattle.emit.proofs.VisitLaws.{children-near, visit-none}
 use Rattle.emit.proofs.PartLaws.{nth-next, width-none, width-some}
 use Rattle.visit.specs.Runs.{unpacks, bodied, downs}
@@ -76,6 +76,19 @@ module _ (recs : List ℕ) (nest : Bool) (t : Semantic) (f r : ℕ) where
   pub left-some : (c : ℕ) (A : State) → (c ≡ 0 → ⊥) → items recs nest t f r (width (own-tree (forest recs (next recs c)))) c A ≡ left-items c A
   unfolding left-items
   left-some c A ne = sym (on-false (eqb c 0) A _ (ne-eqb c 0 ne))
+
+  items-still : (n c : ℕ) (A : State) → isGo (flow A) ≡ false → items recs nest t f r n c A ≡ A
+  items-still zero c A e = no-kept (visit-at recs nest t c Expr (words recs f)) A e
+  items-still (suc n) c A e =
+      ap (λ (B : State). items recs nest t f r n (next recs c) (emit (mark r (Do Pop 0)) B)) (no-kept (visit-at recs nest t c Expr (words recs f)) A e)
+      ∙ ap (items recs nest t f r n (next recs c)) (no-emit (mark r (Do Pop 0)) A e)
+      ∙ items-still n (next recs c) A e
+
+  pub left-still : (c : ℕ) (A : State) → isGo (flow A) ≡ false → left-items c A ≡ A
+  unfolding left-items
+  left-still zero A e = refl
+  left-still (suc c) A e =
+      on-false (eqb (suc c) 0) A _ (ne-eqb (suc c) 0 (λ z. omega arith)) ∙ items-still (width (own-tree (forest recs (next recs (suc c))))) (suc c) A e
 
   pub left-turn : (c x : ℕ) (A : State) → (c ≡ 0 → ⊥) → x ≡ next recs c
       → left-items c A ≡ left-items x (emit-if x (mark r (Do Pop 0)) (kept (visit-at recs nest t c Expr (words recs f)) A))

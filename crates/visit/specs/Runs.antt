@@ -2,13 +2,13 @@
 use mathlib.Core.Path.{_≡_}
 use mathlib.Core.Bool.{Bool}
 use mathlib.Core.List.{List, [], _∷_}
-use Prim.Native.Nat.{ℕ, zero, suc, _-_, _≤_}
-use Rattle.tables.specs.Record.{Words, words}
-use Rattle.tables.specs.Forest.{Nodes, first, next, children, own-tree}
+use Prim.Native.Nat.{ℕ, zero, suc, _≤_}
+use Rattle.tables.specs.Record.{words}
+use Rattle.tables.specs.Forest.{first, next, children, own-tree}
 use Rattle.pool.specs.Value.{Null, int}
 use Rattle.pool.specs.Names.{Semantic}
 use Rattle.rules.specs.Marker.{Jump, LoadConst, Pop, Swap, GetItem, Call, Label, To, Load, Do, mark}
-use Rattle.rules.specs.Step.{Expr, Target, Step, say, take, place, jump, null, visits, width}
+use Rattle.rules.specs.Step.{Expr, Target, Step, say, take, place, jump, width}
 use Rattle.rules.specs.Arms.{registers, bodies}
 use Rattle.rules.specs.Run.{State, emit}
 use Rattle.emit.specs.Sim.{cap, Lent, Outs, Sim}
@@ -42,10 +42,6 @@ module _ (recs : List ℕ) (nest : Bool) (t : Semantic) (f r : ℕ) where
 -- a Call's end with h Handlers from child j on, where the call counts n arguments
 abbrev pub hand-steps : ℕ → ℕ → ℕ → List Step
 hand-steps n j h = take ∷ registers 1 j h (say Call n ∷ jump Jump 0 ∷ bodies 1 j h (place 0 ∷ []))
-
--- an Import's Items
-abbrev pub items-steps : Words → Nodes → List Step
-items-steps w k = visits Expr (w .p) (width k - w .p) (say Pop 0 ∷ null ∷ [])
 
 module _ (e : Lent) (nest : Bool) (o : Outs) (s : Run) (o′ : Outs) (s′ : Run) (f r : ℕ) where
   pub record Hands (j h m : ℕ) : Type 0 where

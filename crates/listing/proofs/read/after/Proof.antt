@@ -1,7 +1,7 @@
 use mathlib.Core.Path.{ap₂}
 use Prim.Native.Nat.{ℕ}
 use borrow.Author.Needs.{needs}
-use Rattle.listing.proofs.RowsLaws.{goodAt}
+use Rattle.listing.proofs.PlacesLaws.{goodAt}
 use Rattle.listing.proofs.read.after.Statement.{statement}
 use Rattle.listing.proofs.read.after.Tie as tie
 

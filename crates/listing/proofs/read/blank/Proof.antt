@@ -4,8 +4,8 @@ use native.Mathlib.Omega.{arith}
 use lib.ListN.{length, drop}
 use borrow.Author.Tests.{not-true, not-false}
 use borrow.Author.Needs.{needs}
-use Rattle.listing.specs.Rows.{blankFrom}
-use Rattle.listing.proofs.RowsLaws.{blank-passed, blank-good, blank-on, blank-off, blank-end}
+use Rattle.listing.specs.Places.{blankFrom}
+use Rattle.listing.proofs.PlacesLaws.{blank-passed, blank-good, blank-on, blank-off, blank-end}
 use Rattle.listing.proofs.read.blank.Statement.{statement}
 use Rattle.listing.proofs.read.blank.Tie as tie
 

@@ -1,8 +1,8 @@
 use mathlib.Core.Path.{sym, ap, _∙_}
 use mathlib.Core.Bool.{Bool, cond}
 use borrow.Author.Needs.{needs}
-use Rattle.listing.specs.Rows.{stoppedAt}
-use Rattle.listing.proofs.RowsLaws.{goodAt}
+use Rattle.listing.specs.Places.{stoppedAt}
+use Rattle.listing.proofs.PlacesLaws.{goodAt}
 use Rattle.listing.proofs.read.ended.Statement.{statement}
 use Rattle.listing.proofs.read.ended.Tie as tie
 

@@ -1,18 +1,19 @@
 use mathlib.Core.Option.{some}
 use mathlib.Core.Path.{_≡_, refl, sym, ap, _∙_}
-use Prim.Native.Nat.{ℕ, _-_, _≤_}
+use Prim.Native.Nat.{ℕ, _+_, _-_, _≤_}
 use native.Mathlib.Omega.{arith}
 use lib.ListN.{take, length-set, length, drop}
+use lib.Seq.{drop-set-lt}
 use borrow.Author.Needs.{needs}
 use Rattle.listing.specs.Read.{pairsOf, stringOf}
-use Rattle.listing.proofs.ReadLaws.{joined, joined-none}
+use Rattle.listing.proofs.ReadLaws.{joined, joined-none, agree-on}
 use Rattle.listing.proofs.TextLaws.{string-dash, string-pairs, text-again, text-broken, text-odd, text-full, text-end, text-before, never}
 use Rattle.listing.proofs.read.hexadecimal.Statement.{statement}
 use Rattle.listing.proofs.read.hexadecimal.Tie as tie
 
 abbrev Inv-loop : tie.InvT-loop
 Inv-loop line out₀ from k₀ i₀ out k i = (i ≤ length line) × (from ≤ k) × (length out ≡ length out₀) × (take from out ≡ take from out₀) ×
-    (k - from ≤ length out₀ - from) × (joined (take (k - from) (drop from out)) (pairsOf (drop i line)) ≡ stringOf line)
+    (k - from ≤ length out₀ - from) × (joined (take (k - from) (drop from out)) (pairsOf (drop i line)) ≡ stringOf line) × (drop k out ≡ drop k out₀)
 
 abbrev μ-loop : tie.MeasureT-loop
 μ-loop line out₀ from k₀ i₀ out k i = length line - i
@@ -29,6 +30,7 @@ returns c =
       omega arith,
       string-dash (a .line .now) (sym (c .before .is-dash .ensures) ∙ c .if1 .taken) ∙ ap (λ (n : ℕ). some (take n (drop (a .from)
           (a .out .now)))) (sym z),
+      refl,
     )
 
 loop-holds : tie.Need-loop-holds Inv-loop μ-loop
@@ -42,6 +44,7 @@ loop-holds c =
       omega arith,
       ap (λ (n : ℕ). joined (take n (drop (a .from) (a .out .now))) (pairsOf (a .line .now))) z ∙ sym
           (joined-none _) ∙ string-pairs (a .line .now) (sym (c .before .is-dash .ensures) ∙ c .if1 .left),
+      refl,
     )
 
 sub-if2 : tie.Need-sub-if2 Inv-loop μ-loop
@@ -121,6 +124,7 @@ loop-again c =
       omega arith,
       text-again (a .line .now) (p .out) (a .from) (p .k) (p .i) _ (p .inv .1) (p .inv .5) _ _ (omega arith) (omega arith)
           (c .before .before .before .pair .ensures) (let g = c .known-told .given in search needs),
+      drop-set-lt (p .k + 1) (p .out) (p .k) _ (omega arith) ∙ agree-on (p .k) 1 (p .out) (a .out .now) (p .inv .6),
     )
 
 same-length-4 : tie.Need-same-length-4 Inv-loop μ-loop
@@ -130,7 +134,7 @@ returns-5 : tie.Need-returns-5 Inv-loop μ-loop
 returns-5 c =
     let a = c .before .before .before .before .before .before .args in
     let p = c .before .loop in
-    (p .inv .3, p .inv .1, omega arith, text-end (a .line .now) (p .out) (a .from) (p .k) (p .i) _ (p .inv .1) (p .inv .5) (omega arith))
+    (p .inv .3, p .inv .1, omega arith, text-end (a .line .now) (p .out) (a .from) (p .k) (p .i) _ (p .inv .1) (p .inv .5) (omega arith), p .inv .6)
 
 pub hexadecimal-spec : {M : Type 1} → statement M
 hexadecimal-spec =

@@ -1,28 +1,36 @@
-use mathlib.Core.Path.{_≡_, refl, sym, _∙_}
+use mathlib.Core.Path.{_≡_, refl, sym, ap, _∙_}
 use mathlib.Core.Bool.{true≢false}
 use Prim.Native.Nat.{_-_, _≤_}
 use native.Mathlib.Omega.{arith}
-use lib.ListN.{length}
+use lib.ListN.{length, drop}
 use borrow.Author.Needs.{needs}
 use borrow.Author.Tests.{not-true, not-false}
+use Rattle.listing.specs.declared.read.Place.{Place}
 use Rattle.listing.specs.Read.{inLine}
-use Rattle.listing.proofs.RowsLaws.{Upto, upto-start, moved, stored-as, refused, further, at-blank, at-most, at-end, ends-at, counted-above}
-use Rattle.listing.proofs.ReadLaws.{end-le}
+use Rattle.listing.proofs.LinesLaws.{counted-above}
+use Rattle.listing.proofs.RowsLaws.{Upto, upto-start, moved, stored-as, refused, further, at-blank, at-most, at-end, ends-at, listed}
+use Rattle.listing.proofs.ReadLaws.{end-le, agree-on}
 use Rattle.listing.proofs.read.lines.Statement.{statement}
 use Rattle.listing.proofs.read.lines.Tie as tie
 
 abbrev Inv-loop : tie.InvT-loop
 Inv-loop text count most last out₀ at₀ line₀ used₀ out at line used =
-    (used ≤ length out₀) × (length out ≡ length out₀) × Upto text count most (length out₀) last at₀ line₀ at line used out
+    (used ≤ length out₀) × (length out ≡ length out₀) × (drop used out ≡ drop used out₀) × Upto text count most (length out₀) last at₀ line₀ at line used out
 
 abbrev μ-loop : tie.MeasureT-loop
 μ-loop text count most last out₀ at₀ line₀ used₀ out at line used = length text - at
 
 returns : tie.Need-returns Inv-loop μ-loop
-returns c = record { passed = λ e. refl; rows = λ e. absurd (true≢false (sym e ∙ not-true _ (c .if1 .taken))) }
+returns c = record {
+  passed = λ e. refl;
+  inside = omega arith;
+  numbered = λ n. n;
+  rows = λ e n. absurd (true≢false (sym e ∙ not-true _ (c .if1 .taken)));
+  past = λ g. refl;
+}
 
 loop-holds : tie.Need-loop-holds Inv-loop μ-loop
-loop-holds c = let a = c .before .before .before .before .args in (omega arith, refl, upto-start _ _ _ _ _ _ _ _)
+loop-holds c = let a = c .before .before .before .before .args in (omega arith, refl, refl, upto-start _ _ _ _ _ _ _ _)
 
 line-end-requires : tie.Need-line-end-requires Inv-loop μ-loop
 line-end-requires c κs = search needs
@@ -38,12 +46,9 @@ returns-2 c =
     let a = c .before .before .before .before .before .before .before .before .before .args in
     let p = c .before .before .before .before .loop in
     let g = not-false _ (c .before .before .before .before .before .if1 .left) in
-    record {
-      passed = λ e. absurd (true≢false (sym g ∙ e));
-      rows = λ e. ends-at (c .after .ensures)
-          (at-blank (a .text .now) (a .count) (a .most) (length (a .out .now)) (a .last) (a .from .at) (a .from .line) (p .at) (p .line) (p .used) (p .out)
-          (p .inv .2) (omega arith) _ (c .before .before .line-end .ensures) (c .before .if2 .taken));
-    }
+    listed g (omega arith) (λ i. p .inv .2) (ends-at (c .after .ensures)
+    (at-blank (a .text .now) (a .count) (a .most) (length (a .out .now)) (a .last) (a .from .at) (a .from .line) (p .at) (p .line) (p .used) (p .out)
+    (omega arith) (p .inv .3) (omega arith) _ (c .before .before .line-end .ensures) (c .before .if2 .taken)))
 
 stopped-requires : tie.Need-stopped-requires Inv-loop μ-loop
 stopped-requires c κs = search needs
@@ -56,12 +61,9 @@ returns-3 c =
     let a = c .before .before .before .before .before .before .before .before .before .before .args in
     let p = c .before .before .before .before .before .loop in
     let g = not-false _ (c .before .before .before .before .before .before .if1 .left) in
-    record {
-      passed = λ e. absurd (true≢false (sym g ∙ e));
-      rows = λ e. ends-at (c .stopped .ensures)
-          (at-most (a .text .now) (a .count) (a .most) (length (a .out .now)) (a .last) (a .from .at) (a .from .line) (p .at) (p .line) (p .used) (p .out)
-          (p .inv .2) (omega arith) _ (c .before .before .before .line-end .ensures) (c .before .before .if2 .left) (omega arith));
-    }
+    listed g (omega arith) (λ i. p .inv .2) (ends-at (c .stopped .ensures)
+    (at-most (a .text .now) (a .count) (a .most) (length (a .out .now)) (a .last) (a .from .at) (a .from .line) (p .at) (p .line) (p .used) (p .out)
+    (omega arith) (p .inv .3) (omega arith) _ (c .before .before .before .line-end .ensures) (c .before .before .if2 .left) (omega arith)))
 
 sub-values : tie.Need-sub-values Inv-loop μ-loop
 sub-values c = search needs
@@ -90,13 +92,10 @@ returns-4 c =
     let a = c .before .before .before .before .before .before .before .before .before .before .before .before .before .before .before .before .args in
     let p = c .before .before .before .before .before .before .before .before .before .before .before .loop in
     let g = not-false _ (c .before .before .before .before .before .before .before .before .before .before .before .before .if1 .left) in
-    record {
-      passed = λ e. absurd (true≢false (sym g ∙ e));
-      rows = λ e. ends-at (c .stopped2 .ensures)
-          (refused (a .text .now) (a .count) (a .most) (length (a .out .now)) (a .last) (a .from .at) (a .from .line) (p .at) (p .line) (p .used) (p .out)
-          (p .inv .2) _ _ (omega arith) (c .before .before .before .before .before .before .before .before .before .line-end .ensures) (omega arith) (stored-as
-          (c .before .before .before .before .values .ensures) (not-true _ (c .before .if4 .taken))) (p .inv .1));
-    }
+    listed g (omega arith) (λ i. absurd (true≢false (sym i ∙ ap (λ (z : Place). z .good) (c .stopped2 .ensures)))) (ends-at (c .stopped2 .ensures)
+    (refused (a .text .now) (a .count) (a .most) (length (a .out .now)) (a .last) (a .from .at) (a .from .line) (p .at) (p .line) (p .used) (p .out)
+    (omega arith) (p .inv .3) _ _ (omega arith) (c .before .before .before .before .before .before .before .before .before .line-end .ensures) (omega arith) (omega arith) (stored-as
+    (c .before .before .before .before .values .ensures) (not-true _ (c .before .if4 .taken))) (p .inv .1)))
 
 add-used : tie.Need-add-used Inv-loop μ-loop
 add-used c = let h = c .before .before .before .values .ensures .room (not-false _ (c .if4 .left)) in omega arith
@@ -117,9 +116,11 @@ loop-again c =
     let h = c .before .before .before .before .before .values .ensures .room (not-false _ (c .before .before .if4 .left)) in (
       omega arith,
       search needs,
+      c .before .before .before .before .before .values .ensures .past (not-false _ (c .before .before .if4 .left))
+          ∙ agree-on (p .used) (a .count) (p .out) (a .out .now) (p .inv .2),
       moved _ _ _ _ _ _ _ _ _ _ _ _ _ (c .before .more .ensures) (c .more2 .ensures)
           (further (a .text .now) (a .count) (a .most) (length (a .out .now)) (a .last) (a .from .at) (a .from .line) (p .at) (p .line) (p .used) (p .out)
-          (p .inv .2) _ _ (omega arith) (c .before .before .before .before .before .before .before .before .before .before .line-end .ensures) (omega arith)
+          (omega arith) (p .inv .3) _ _ (omega arith) (c .before .before .before .before .before .before .before .before .before .before .line-end .ensures) (omega arith)
           (omega arith)
           (stored-as (c .before .before .before .before .before .values .ensures) (not-false _ (c .before .before .if4 .left))) (p .inv .1)),
     )
@@ -135,11 +136,8 @@ returns-5 c =
     let a = c .before .before .before .before .before .before .before .args in
     let p = c .before .before .loop in
     let g = not-false _ (c .before .before .before .if1 .left) in
-    record {
-      passed = λ e. absurd (true≢false (sym g ∙ e));
-      rows = λ e. ends-at (c .ended .ensures) (at-end (a .text .now) (a .count) (a .most) (length
-          (a .out .now)) (a .last) (a .from .at) (a .from .line) (p .at) (p .line) (p .used) (p .out) (p .inv .2) (omega arith));
-    }
+    listed g (omega arith) (λ i. p .inv .2) (ends-at (c .ended .ensures) (at-end (a .text .now) (a .count) (a .most) (length
+    (a .out .now)) (a .last) (a .from .at) (a .from .line) (p .at) (p .line) (p .used) (p .out) (omega arith) (p .inv .3) (omega arith)))
 
 pub lines-spec : {M : Type 1} → statement M
 lines-spec =

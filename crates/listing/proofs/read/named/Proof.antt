@@ -3,8 +3,8 @@ use Prim.Native.Nat.{ℕ}
 use native.Mathlib.Omega.{arith}
 use borrow.Author.Tests.{not-true, not-false}
 use borrow.Author.Needs.{needs}
-use Rattle.listing.specs.Rows.{afterAt}
-use Rattle.listing.proofs.RowsLaws.{named-passed, named-over, named-line}
+use Rattle.listing.specs.Places.{afterAt}
+use Rattle.listing.proofs.PlacesLaws.{named-passed, named-over, named-line}
 use Rattle.listing.proofs.read.named.Statement.{statement}
 use Rattle.listing.proofs.read.named.Tie as tie
 

@@ -1,8 +1,7 @@
-use mathlib.Core.Path.{ap, _∙_}
+use native.Mathlib.Omega.{arith}
 use borrow.Author.Needs.{needs}
-use Rattle.listing.specs.declared.read.Place.{Place}
-use Rattle.listing.specs.Rows.{answerOf, sizesOf}
 use Rattle.listing.proofs.StringsLaws.{texted-from}
+use Rattle.listing.proofs.ReadingLaws.{promised}
 use Rattle.listing.proofs.read.read.Statement.{statement}
 use Rattle.listing.proofs.read.read.Tie as tie
 
@@ -62,32 +61,21 @@ same-length-7 c = search needs
 
 returns : tie.Need-returns
 returns c =
-    let a′ = c .before .before .before .before .before .before .before .before .before .before .before .before .before in
-    let a = a′ .before .before .before .before .before .before .before .before .before .before .before .before .before .string-lines in
-    let t3′ = c .before .before .before .before .before .before .before .before .before .before in
-    let t3 = t3′ .before .before .before .before .before .before .before .before .before .before .table in
-    let t4 = c .before .before .before .before .before .before .before .before .before .before .before .before .before .before .before .before .table2 in
-    let t5 = c .before .before .before .before .before .before .before .before .before .before .before .before .table3 in
-    let t6 = c .before .before .before .before .before .before .before .before .table4 in
     let t7 = c .before .before .before .before .table5 in
-    let n′ = c .before .before .before .before .before .before .before .before .before .before .before .before .before .before in
-    let n = n′ .before .before .before .before .before .before .before .before .before .before .before .before .before .before .before in
-    record {
-      one = a .result;
-      three = t3 .result;
-      four = t4 .result;
-      five = t5 .result;
-      six = t6 .result;
-      seven = t7 .result;
-      table1 = texted-from (n .named .ensures) (a .ensures);
-      table3 = t3 .ensures;
-      table4 = t4 .ensures;
-      table5 = t5 .ensures;
-      table6 = t6 .ensures;
-      table7 = t7 .ensures;
-      result = c .answer .ensures ∙ ap (λ (p : Place). answerOf p (sizesOf (a .result) (t3 .result) (t4 .result) (t5 .result) (t6 .result) (t7 .result)))
-          (c .before .blank .ensures);
-    }
+    let t6 = c .before .before .before .before .before .before .before .before .table4 in
+    let t5 = c .before .before .before .before .before .before .before .before .before .before .before .before .table3 in
+    let t4 = c .before .before .before .before .before .before .before .before .before .before .before .before .before .before .before .before .table2 in
+    let c20 = c .before .before .before .before .before .before .before .before .before .before .before .before .before .before .before .before .before .before .before .before in
+    let t3 = c20 .table in
+    let c26 = c20 .before .before .before .before .before .before in
+    let one = c26 .string-lines in
+    let c29 = c26 .before .before .before in
+    let c38 = c29 .before .before .before .before .before .before .before .before .before in
+    let a = c38 .args in
+    promised (a .text .now) (a .strings .now) (a .bytes .now) (a .symbols .now) (a .references .now) (a .functions .now) (a .members .now) (a .records .now) _ _ _
+    _ _ _ _ (one .result) (t3 .result) (t4 .result) (t5 .result) (t6 .result) (t7 .result) (omega (arith, c38 .good .0 .1))
+    (texted-from (c29 .named .ensures) (one .ensures)) (t3 .ensures) (t4 .ensures) (t5 .ensures) (t6 .ensures) (t7 .ensures) (c .answer .result)
+    (c .before .blank .result) (c .answer .ensures) (c .before .blank .ensures)
 
 pub read-spec : {M : Type 1} → statement M
 read-spec =

@@ -94,7 +94,7 @@ returns-5 c =
     let r = c .before .before .before .before .before .before .hexadecimal in
     let q : r .result ≡ Bytes (c .before .before .end .given .0 .0) = let g = c .before .known-told .given in search needs in
     let h = kept-bytes (a .line .now) (a .bytes .now) (a .held) _ (r .result) _ (r .ensures) q in
-    (omega arith, h .1, omega arith, h .2, h .3, h .0, refl)
+    (omega arith, h .1, omega arith, h .2, h .3, h .0, refl, h .4)
 
 pub string-entry-spec : {M : Type 1} → statement M
 string-entry-spec =

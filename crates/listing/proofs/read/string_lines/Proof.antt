@@ -1,30 +1,39 @@
-use mathlib.Core.Bool.{true≢false}
-use mathlib.Core.Path.{_≡_, refl, sym, _∙_}
+use mathlib.Core.Bool.{false, true≢false}
+use mathlib.Core.Path.{_≡_, refl, sym, ap, _∙_}
 use Prim.Native.Nat.{_+_, _-_, _≤_}
 use native.Mathlib.Omega.{arith}
-use lib.ListN.{length}
+use lib.ListN.{length, drop}
 use borrow.Author.Tests.{not-true, not-false}
 use borrow.Author.Needs.{needs}
 use Rattle.listing.specs.declared.read.Held.the-variants.{Bytes}
+use Rattle.listing.specs.declared.read.Place.{Place}
 use Rattle.listing.specs.Read.{inLine}
-use Rattle.listing.proofs.RowsLaws.{counted-above}
-use Rattle.listing.proofs.ReadLaws.{end-le}
-use Rattle.listing.proofs.StringsLaws.{Before, before-start, blank1, most1, end1, refused1, further1, moved1, ends-at1, entered-room}
+use Rattle.listing.proofs.LinesLaws.{counted-above}
+use Rattle.listing.proofs.ReadLaws.{end-le, agree-on, agree-upto}
+use Rattle.listing.proofs.StringsLaws.{Before, before-start, blank1, most1, end1, refused1, further1, moved1, ends-at1, texted, entered-room, entered-fits, entered-past}
 use Rattle.listing.proofs.read.string_lines.Statement.{statement}
 use Rattle.listing.proofs.read.string_lines.Tie as tie
 
 abbrev Inv-loop : tie.InvT-loop
 Inv-loop text strings₀ bytes₀ at₀ line₀ used₀ held₀ strings bytes at line used held = (used ≤ 280 + 1) × (length strings ≡ length strings₀) ×
-    (length bytes ≡ length bytes₀) × (held ≤ length bytes₀) × Before text (length strings₀) (length bytes₀) at₀ line₀ at line used held strings bytes
+    (length bytes ≡ length bytes₀) × (held ≤ length bytes₀) × (used ≤ length strings₀) × (drop used strings ≡ drop used strings₀) × (drop held bytes ≡ drop held bytes₀) × Before text (length strings₀) (length bytes₀) at₀ line₀ at line used held strings bytes
 
 abbrev μ-loop : tie.MeasureT-loop
 μ-loop text strings₀ bytes₀ at₀ line₀ used₀ held₀ strings bytes at line used held = length text - at
 
 returns : tie.Need-returns Inv-loop μ-loop
-returns c = record { passed = λ e. refl; strings = λ e. absurd (true≢false (sym e ∙ not-true _ (c .if1 .taken))) }
+returns c = record {
+  passed = λ e. refl;
+  inside = omega arith;
+  within = omega arith;
+  numbered = λ n. n;
+  strings = λ e n. absurd (true≢false (sym e ∙ not-true _ (c .if1 .taken)));
+  past-words = λ g. refl;
+  past-bytes = λ g. refl;
+}
 
 loop-holds : tie.Need-loop-holds Inv-loop μ-loop
-loop-holds c = (omega arith, refl, refl, omega arith, before-start _ _ _ _ _ _ _)
+loop-holds c = (omega arith, refl, refl, omega arith, omega arith, refl, refl, before-start _ _ _ _ _ _ _)
 
 line-end-requires : tie.Need-line-end-requires Inv-loop μ-loop
 line-end-requires c κs = search needs
@@ -43,12 +52,9 @@ returns-2 c =
     let a = c .before .before .before .before .before .before .before .before .before .before .args in
     let p = c .before .before .before .before .loop in
     let g = not-false _ (c .before .before .before .before .before .if1 .left) in
-    record {
-      passed = λ e. absurd (true≢false (sym g ∙ e));
-      strings = λ e. ends-at1 (c .after .ensures)
-          (blank1 (a .text .now) (length (a .strings .now)) (length (a .bytes .now)) (a .from .at) (a .from .line) (p .at) (p .line) (p .used) (p .held)
-          (p .strings) (p .bytes) (p .inv .4) (omega arith) _ (c .before .before .line-end .ensures) (c .before .if2 .taken));
-    }
+    texted g (omega arith) (omega arith) (λ i. p .inv .5) (λ i. p .inv .6) (ends-at1 (c .after .ensures)
+    (blank1 (a .text .now) (length (a .strings .now)) (length (a .bytes .now)) (a .from .at) (a .from .line) (p .at) (p .line) (p .used) (p .held)
+    (p .strings) (p .bytes) (omega arith) (p .inv .7) (omega arith) _ (c .before .before .line-end .ensures) (c .before .if2 .taken)))
 
 stopped-requires : tie.Need-stopped-requires Inv-loop μ-loop
 stopped-requires c κs = search needs
@@ -64,12 +70,9 @@ returns-3 c =
     let a = c .before .before .before .before .before .before .before .before .before .before .before .args in
     let p = c .before .before .before .before .before .loop in
     let g = not-false _ (c .before .before .before .before .before .before .if1 .left) in
-    record {
-      passed = λ e. absurd (true≢false (sym g ∙ e));
-      strings = λ e. ends-at1 (c .stopped .ensures)
-          (most1 (a .text .now) (length (a .strings .now)) (length (a .bytes .now)) (a .from .at) (a .from .line) (p .at) (p .line) (p .used) (p .held)
-          (p .strings) (p .bytes) (p .inv .4) (omega arith) _ (c .before .before .before .line-end .ensures) (c .before .before .if2 .left) (omega arith));
-    }
+    texted g (omega arith) (omega arith) (λ i. p .inv .5) (λ i. p .inv .6) (ends-at1 (c .stopped .ensures)
+    (most1 (a .text .now) (length (a .strings .now)) (length (a .bytes .now)) (a .from .at) (a .from .line) (p .at) (p .line) (p .used) (p .held)
+    (p .strings) (p .bytes) (omega arith) (p .inv .7) (omega arith) _ (c .before .before .before .line-end .ensures) (c .before .before .if2 .left) (omega arith)))
 
 sub-string-entry : tie.Need-sub-string-entry Inv-loop μ-loop
 sub-string-entry c = search needs
@@ -109,14 +112,12 @@ returns-4 c =
     let p = c .before .before .before .before .before .before .before .before .before .before .before .before .before .before .before .loop in
     let g = not-false _
     (c .before .before .before .before .before .before .before .before .before .before .before .before .before .before .before .before .if1 .left) in
-    record {
-      passed = λ e. absurd (true≢false (sym g ∙ e));
-      strings = λ e. ends-at1 (c .stopped2 .ensures)
-          (refused1 (a .text .now) (length (a .strings .now)) (length (a .bytes .now)) (a .from .at) (a .from .line) (p .at) (p .line) (p .used) (p .held)
-          (p .strings) (p .bytes) (p .inv .4) _ _ _ _ (omega arith)
-          (c .before .before .before .before .before .before .before .before .before .before .before .before .before .line-end .ensures) (omega arith)
-          (c .before .before .before .before .before .before .before .string-entry .ensures) (c .before .enum-told .given .1) (p .inv .1) (p .inv .2));
-    }
+    let bad : c .stopped2 .result .good ≡ false = ap (λ (z : Place). z .good) (c .stopped2 .ensures) in
+    texted g (omega arith) (omega arith) (λ i. absurd (true≢false (sym i ∙ bad))) (λ i. absurd (true≢false (sym i ∙ bad))) (ends-at1 (c .stopped2 .ensures)
+    (refused1 (a .text .now) (length (a .strings .now)) (length (a .bytes .now)) (a .from .at) (a .from .line) (p .at) (p .line) (p .used) (p .held)
+    (p .strings) (p .bytes) (omega arith) (p .inv .7) _ _ _ _ (omega arith)
+    (c .before .before .before .before .before .before .before .before .before .before .before .before .before .line-end .ensures) (omega arith)
+    (omega arith) (c .before .before .before .before .before .before .before .string-entry .ensures) (c .before .enum-told .given .1) (p .inv .1) (p .inv .2)))
 
 add-used : tie.Need-add-used Inv-loop μ-loop
 add-used c = search needs
@@ -142,9 +143,10 @@ loop-again c =
     let q = c .before .before .before .before .before .before .before .before .before .string-entry in
     let k : q .result ≡ Bytes (c .before .before .before .n .given .0 .0) = let g = c .before .before .known-told .given in search needs in
     let f = further1 (a .text .now) (length (a .strings .now)) (length (a .bytes .now)) (a .from .at) (a .from .line) (p .at) (p .line) (p .used) (p .held)
-    (p .strings) (p .bytes) (p .inv .4) _ _ _ _ _ (omega arith)
+    (p .strings) (p .bytes) (omega arith) (p .inv .7) _ _ _ _ _ (omega arith)
     (c .before .before .before .before .before .before .before .before .before .before .before .before .before .before .before .line-end .ensures) (omega arith)
-    (omega arith) (p .inv .3) (q .ensures) k (p .inv .1) (p .inv .2) (q .kept .1 .1 .1 .0) in (
+    (omega arith) (p .inv .3) (q .ensures) k (p .inv .1) (p .inv .2) (q .kept .1 .1 .1 .0) in
+    let z = entered-past _ (p .strings) (p .used) (p .bytes) (p .held) _ _ (q .result) _ (q .ensures) k in (
       omega arith,
       search needs,
       search needs,
@@ -153,6 +155,9 @@ loop-again c =
         entered-room _ (p .strings) (p .used) (p .bytes) (p .held) _ _ (q .result) _ (q .ensures) k
             (omega arith),
       ),
+      omega (arith, entered-fits _ (p .strings) (p .used) (p .bytes) (p .held) _ _ (q .result) _ (q .ensures) k),
+      z .0 ∙ agree-on (p .used) 2 (p .strings) (a .strings .now) (p .inv .5),
+      z .2 ∙ agree-upto (p .held) _ (p .bytes) (a .bytes .now) (z .1) (p .inv .6),
       moved1 (c .before .more .ensures) (c .more2 .ensures) f,
     )
 
@@ -170,11 +175,8 @@ returns-5 c =
     let a = c .before .before .before .before .before .before .before .before .args in
     let p = c .before .before .loop in
     let g = not-false _ (c .before .before .before .if1 .left) in
-    record {
-      passed = λ e. absurd (true≢false (sym g ∙ e));
-      strings = λ e. ends-at1 (c .stopped3 .ensures) (end1 (a .text .now) (length (a .strings .now)) (length
-          (a .bytes .now)) (a .from .at) (a .from .line) (p .at) (p .line) (p .used) (p .held) (p .strings) (p .bytes) (p .inv .4) (omega arith));
-    }
+    texted g (omega arith) (omega arith) (λ i. p .inv .5) (λ i. p .inv .6) (ends-at1 (c .stopped3 .ensures) (end1 (a .text .now) (length (a .strings .now)) (length
+    (a .bytes .now)) (a .from .at) (a .from .line) (p .at) (p .line) (p .used) (p .held) (p .strings) (p .bytes) (omega arith) (p .inv .7) (omega arith)))
 
 pub string-lines-spec : {M : Type 1} → statement M
 string-lines-spec =

@@ -4,6 +4,7 @@ use mathlib.Core.List.{[]}
 use Prim.Native.Nat.{ℕ, _+_, _-_, _≤_}
 use native.Mathlib.Omega.{arith}
 use lib.ListN.{length, drop, take, length-set}
+use lib.Seq.{drop-set-lt}
 use borrow.Author.Needs.{needs}
 use Rattle.listing.specs.Read.{isDigit, valuesFrom, valuesOf}
 use Rattle.listing.proofs.ReadLaws.{end-le, gap-end-le, joined, joined-none, stored-before, again, stops, finish}
@@ -12,19 +13,20 @@ use Rattle.listing.proofs.read.values.Tie as tie
 
 abbrev Inv-loop : tie.InvT-loop
 Inv-loop line count out₀ from at₀ k₀ out at k = (at ≤ length line) × (from + count ≤ length out₀) × (length out ≡ length out₀) × (k ≤ count) ×
-    (take from out ≡ take from out₀) × (joined (take k (drop from out)) (valuesFrom k (count - k) (drop at line)) ≡ valuesOf count line)
+    (take from out ≡ take from out₀) × (joined (take k (drop from out)) (valuesFrom k (count - k) (drop at line)) ≡ valuesOf count line) ×
+    (drop (from + count) out ≡ drop (from + count) out₀)
 
 abbrev μ-loop : tie.MeasureT-loop
 μ-loop line count out₀ from at₀ k₀ out at k = count - k
 
 returns : tie.Need-returns Inv-loop μ-loop
-returns c = record { room = λ e. absurd (false≢true e); stored = λ h. absurd (omega arith); before = refl }
+returns c = record { room = λ e. absurd (false≢true e); stored = λ h. absurd (omega arith); before = refl; past = λ e. absurd (false≢true e) }
 
 sub-if2 : tie.Need-sub-if2 Inv-loop μ-loop
 sub-if2 c = omega arith
 
 returns-2 : tie.Need-returns-2 Inv-loop μ-loop
-returns-2 c = record { room = λ e. absurd (false≢true e); stored = λ h. absurd (omega arith); before = refl }
+returns-2 c = record { room = λ e. absurd (false≢true e); stored = λ h. absurd (omega arith); before = refl; past = λ e. absurd (false≢true e) }
 
 loop-holds : tie.Need-loop-holds Inv-loop μ-loop
 unfolding valuesOf
@@ -37,6 +39,7 @@ loop-holds c =
       omega arith,
       refl,
       ap (λ (n : ℕ). joined [] (valuesFrom 0 n (a .line .now))) z ∙ sym (joined-none _),
+      refl,
     )
 
 spaces-end-requires : tie.Need-spaces-end-requires Inv-loop μ-loop
@@ -92,7 +95,7 @@ returns-3 c =
     let d = c .before .before .before .before .digits-end in
     let w = stops (a .line .now) (p .out) (a .count) (a .from) (p .k) (p .at) (s .result) (d .result) _ _ (s .ensures) (d .ensures) (omega arith)
     (c .before .before .decimal .ensures) (p .inv .5) (c .enum-told .given .1) in
-    record { room = λ e. absurd (false≢true e); stored = λ h. w; before = p .inv .4 }
+    record { room = λ e. absurd (false≢true e); stored = λ h. w; before = p .inv .4; past = λ e. absurd (false≢true e) }
 
 add-out : tie.Need-add-out Inv-loop μ-loop
 add-out c = omega arith
@@ -130,6 +133,7 @@ loop-again c =
       stored-before (p .out) (a .from) (p .k) _ ∙ p .inv .4,
       again (a .line .now) (p .out) (a .count) (a .from) (p .k) (p .at) (s .result) (d .result) _ _ (s .ensures) (d .ensures) (omega arith)
           (c .before .before .before .decimal .ensures) (p .inv .5) _ (omega arith) (let g = c .known-told .given in search needs),
+      drop-set-lt (a .from + a .count) (p .out) _ _ (omega arith) ∙ p .inv .6,
     )
 
 same-length-2 : tie.Need-same-length-2 Inv-loop μ-loop
@@ -140,7 +144,7 @@ returns-4 c =
     let a = c .before .before .before .before .before .before .args in
     let p = c .before .loop in
     let w = finish (a .line .now) (p .out) (a .count) (a .from) (p .k) (p .at) _ (omega arith) (omega arith) (p .inv .5) in
-    record { room = λ e. omega arith; stored = λ h. w; before = p .inv .4 }
+    record { room = λ e. omega arith; stored = λ h. w; before = p .inv .4; past = λ e. p .inv .6 }
 
 pub values-spec : {M : Type 1} → statement M
 values-spec =

@@ -1,0 +1,3 @@
+pub mod FeedsLaws
+pub mod GenlistLaws
+pub mod WholeLaws

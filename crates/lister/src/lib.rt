@@ -1,0 +1,3 @@
+// genlist's work between its input and its output.
+pub mod list;
+pub mod part;
