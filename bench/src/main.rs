@@ -19,7 +19,6 @@ mod text;
 #[path = "../../oracle/src/tree.rs"]
 mod tree;
 
-mod clock;
 mod node;
 mod rust;
 mod shapes;
@@ -97,18 +96,18 @@ impl Case {
 /// gives is dropped outside its time.
 fn best<T>(mut run: impl FnMut() -> T) -> f64 {
     let begun = Instant::now();
-    let mut shortest = [i64::MAX; 2];
+    let mut shortest = [Duration::MAX; 2];
     let mut repeats = 0;
     while repeats < REPEATS || begun.elapsed() < SPAN {
-        let start = clock::now();
+        let start = Instant::now();
         let given = black_box(run());
-        let end = clock::now();
-        let empty = clock::now() - end;
+        let end = Instant::now();
+        let empty = end.elapsed();
         shortest = [shortest[0].min(end - start), shortest[1].min(empty)];
         drop(given);
         repeats += 1;
     }
-    (shortest[0] - shortest[1]) as f64 / 1000.0
+    shortest[0].saturating_sub(shortest[1]).as_nanos() as f64 / 1000.0
 }
 
 fn time(shape: &str, size: usize) {
