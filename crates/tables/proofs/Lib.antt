@@ -4,6 +4,7 @@ pub mod RowLaws
 pub mod SemanticLaws
 pub mod LentLaws
 pub mod EntriesLaws
+pub mod SeenLaws
 pub mod EntriesCases
 pub mod LinksLaws
 pub mod ServeLaws

@@ -5,6 +5,7 @@ pub mod Place
 pub mod Semantic
 pub mod Lent
 pub mod Entries
+pub mod Seen
 pub mod Details
 pub mod Links
 pub mod Children

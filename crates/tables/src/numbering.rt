@@ -13,6 +13,7 @@ ghost use Rattle.tables.specs.Place.{broken};
 use crate::ast;
 use crate::refusal::Broken;
 use crate::scratch;
+use crate::scratch::wide;
 
 // How a record's children are visited.
 pub enum Manner {
@@ -134,12 +135,6 @@ fn parents(recs: &[u32], n: usize) -> [u16; 4096]
         i += 1;
     }
     a
-}
-
-fn wide(x: u16) -> usize
-    ensures { λ r. ⌜ r ≡ x ⌝ }
-{
-    x as usize
 }
 
 // How many functions are visited before record x, since its parent.

@@ -1,4 +1,4 @@
-// Arrays of one entry for each record that a table can have.
+// Arrays of one entry for each record that a table can have, and their entries.
 ghost use mathlib.Core.Path.{_≡_};
 ghost use lib.ListN.{length, replicate};
 ghost use Rattle.tables.specs.Scratch.{handed};
@@ -24,4 +24,11 @@ pub fn hand(a: &mut [u16; 4096], x: usize, v: u16)
             a[x] = v;
         }
     }
+}
+
+// An entry as a number to count with.
+pub fn wide(x: u16) -> usize
+    ensures { λ r. ⌜ r ≡ x ⌝ }
+{
+    x as usize
 }

@@ -1,5 +1,7 @@
-use mathlib.Core.Path.{_∙_}
-use Prim.Native.Nat.{_+_}
+use mathlib.Core.Path.{_≡_, _∙_}
+use mathlib.Core.Bool.{Bool}
+use mathlib.Core.List.{List}
+use Prim.Native.Nat.{ℕ, _+_, _≤_}
 use native.Mathlib.Omega.{arith}
 use lib.ListN.{length}
 use borrow.Author.Tests.{lt-ltb, le-ltb}
@@ -9,6 +11,13 @@ use Rattle.tables.proofs.EntriesLaws.{or-hit, or-skip}
 use borrow.Author.Needs.{needs}
 use Rattle.tables.proofs.strings.string_bad.Statement.{statement}
 use Rattle.tables.proofs.strings.string_bad.Tie as tie
+
+-- a string inside the bytes is bad where it equals an earlier one
+inside : (strings bytes : List ℕ) (s : ℕ) (t : Bool) → stringOffset strings s + stringLength strings s ≤ length bytes → t ≡ equalEarlier strings bytes s
+    → t ≡ stringBad strings bytes s
+unfolding stringBad
+inside strings bytes s t h e =
+    e ∙ or-skip (pastBytes strings bytes s) (equalEarlier strings bytes s) (le-ltb (length bytes) (stringOffset strings s + stringLength strings s) h)
 
 string-offset-requires : tie.Need-string-offset-requires
 string-offset-requires c κs = tt
@@ -32,16 +41,23 @@ returns c =
     or-hit (pastBytes (a .strings .now) (a .bytes .now) (a .s)) _
     (lt-ltb (length (a .bytes .now)) (stringOffset (a .strings .now) (a .s) + stringLength (a .strings .now) (a .s)) (omega arith))
 
+in-chain-requires : tie.Need-in-chain-requires
+in-chain-requires c κs =
+    let p = c .before .before .before .before .before .before .pre in
+    (c .if2 .taken, (p .0, p .1 (c .if2 .taken)))
+
+returns-2 : tie.Need-returns-2
+returns-2 c =
+    let a = c .before .before .before .before .before .before .before .args in
+    inside (a .strings .now) (a .bytes .now) (a .s) _ (omega arith) (c .in-chain .ensures)
+
 equal-earlier-requires : tie.Need-equal-earlier-requires
 equal-earlier-requires c κs = tt
 
-returns-2 : tie.Need-returns-2
-unfolding stringBad
-returns-2 c =
-    let a = c .before .before .before .before .before .before .args in
-    c .equal-earlier .ensures
-    ∙ or-skip (pastBytes (a .strings .now) (a .bytes .now) (a .s)) (equalEarlier (a .strings .now) (a .bytes .now) (a .s))
-    (le-ltb (length (a .bytes .now)) (stringOffset (a .strings .now) (a .s) + stringLength (a .strings .now) (a .s)) (omega arith))
+returns-3 : tie.Need-returns-3
+returns-3 c =
+    let a = c .before .before .before .before .before .before .before .args in
+    inside (a .strings .now) (a .bytes .now) (a .s) _ (omega arith) (c .equal-earlier .ensures)
 
 pub string-bad-spec : {M : Type 1} → statement M
 string-bad-spec =
@@ -53,5 +69,7 @@ string-bad-spec =
     cast-size
     add-if1
     returns
+    in-chain-requires
+    returns-2
     equal-earlier-requires
-    returns-2)
+    returns-3)
