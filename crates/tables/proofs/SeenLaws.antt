@@ -3,20 +3,19 @@ use mathlib.Core.Path.{_≡_, refl, sym, ap, subst, _∙_}
 use mathlib.Core.Bool.{Bool, true, false, cond, _&&_, true≢false}
 use mathlib.Core.List.{List, [], _∷_}
 use mathlib.Core.Logic.{_⊎_, inl, inr}
-use Prim.Native.Nat.{ℕ, zero, suc, _+_, _-_, _≤_, _<_}
+use Prim.Native.Nat.{ℕ, zero, suc, _+_, _≤_, _<_}
 use native.Mathlib.Numerals.{add-one}
 use native.Mathlib.Omega.{arith}
 use native.Mathlib.Decide.{ℕ-discrete}
 use lib.ListN.{length, getD, set, drop, replicate, length-set, length-replicate, getD-replicate}
-use lib.Seq.{getD-set-same, getD-set-other, drop-cons}
+use lib.Seq.{getD-set-same, getD-set-other, set-out, drop-cons}
 use lib.Dec.{ltb, eqb}
 use borrow.Author.Tests.{le-ltb, lt-ltb, eq-eqb, ne-eqb, eqb-true, eqb-false}
 use Rattle.tables.specs.declared.refusal.Broken.{Broken}
 use Rattle.tables.specs.declared.refusal.Broken.the-variants.{Nowhere, At}
-use Rattle.tables.specs.Place.{broken}
 use Rattle.tables.specs.Semantic.{textOf}
-use Rattle.tables.specs.Entries.{orElse, found, sameList, sameString, equalEarlier}
-use Rattle.tables.specs.Seen.{last, mixed, hash, hashAt, bucket, bucketAt, Chained}
+use Rattle.tables.specs.Entries.{orElse, found, sameList, sameString, equalEarlier, twice}
+use Rattle.tables.specs.Seen.{last, mixed, hash, hashAt, bucket, bucketAt, Chained, symbolAt, Stamped}
 use Rattle.tables.proofs.PlaceLaws.{rest, rest-on, rest-at, rest-end, rest-start}
 use Rattle.tables.proofs.EntriesLaws.{rest-cut}
 use Rattle.tables.proofs.SemanticLaws.{split}
@@ -74,6 +73,51 @@ module _ (key : ℕ → ℕ) (b : ℕ) where
           → found (rest bad (cond t (suc n) (last key b n)) 0) ≡ found (rest bad (suc n) 0)
       go true p ih = refl
       go false p ih = ih ∙ sym (any-miss bad 0 n (omega arith) (other (bad n) refl p))
+
+  -- a place of key b from i on is there where the last one is not before i
+  found-since : (i n : ℕ) → found (rest (λ e. eqb (key e) b) n i) ≡ ltb i (last key b n)
+  unfolding last
+  found-since i zero = ap found (rest-end (λ e. eqb (key e) b) 0 i (omega arith)) ∙ sym (le-ltb i 0 (omega arith))
+  found-since i (suc n) = go (split i n) (eqb (key n) b) refl (found-since i n)
+    where
+      none : (t : Bool) → n < i → ltb i (cond t (suc n) (last key b n)) ≡ false
+      none true h = le-ltb i (suc n) (omega arith)
+      none false h = le-ltb i (last key b n) (omega (arith, last-within n))
+
+      go : (i ≤ n) ⊎ (n < i) → (t : Bool) → eqb (key n) b ≡ t → found (rest (λ e. eqb (key e) b) n i) ≡ ltb i (last key b n)
+          → found (rest (λ e. eqb (key e) b) (suc n) i) ≡ ltb i (cond t (suc n) (last key b n))
+      go (inl h) true p ih = any-hit (λ e. eqb (key e) b) i n h p ∙ sym (lt-ltb i (suc n) (omega arith))
+      go (inl h) false p ih = any-miss (λ e. eqb (key e) b) i n h p ∙ ih
+      go (inr h) t p ih = ap found (rest-end (λ e. eqb (key e) b) (suc n) i (omega arith)) ∙ sym (none t h)
+
+-- place n noted as the last of its key x
+last-put : (key : ℕ → ℕ) (a : List ℕ) (x n y : ℕ) → x ≡ key n → y < length a → getD a y 0 ≡ last key y n → getD (set a x (n + 1)) y 0 ≡ last key y (n + 1)
+unfolding last
+last-put key a x n y e h f = rw (add-one n) (go (ℕ-discrete y x))
+  where
+    go : Dec (y ≡ x) → getD (set a x (suc n)) y 0 ≡ cond (eqb (key n) y) (suc n) (last key y n)
+    go (yes z) = rw (← z, eq-eqb (key n) y (sym (z ∙ e))) (getD-set-same a y (suc n) 0 h)
+    go (no d) = getD-set-other a x y (suc n) 0 d ∙ f ∙ rw (ne-eqb (key n) y (λ z. d (sym (e ∙ z))))
+
+-- a symbol stands twice in a share where its last place is not before the share
+pub twice-since : (members : List ℕ) (start m : ℕ) → twice members start m ≡ ltb start (last (symbolAt members) (symbolAt members m) m)
+unfolding twice
+twice-since members start m = found-since (symbolAt members) (symbolAt members m) start m
+
+pub stamped-none : (key : ℕ → ℕ) → Stamped key (replicate 1024 0) 0
+unfolding last
+stamped-none key = record { long = length-replicate {A = ℕ} 1024 0; each = λ x h. getD-replicate 1024 x 0 0 h }
+
+-- one place more stamped; a key past the stamps has none
+module _ (key : ℕ → ℕ) (seen : List ℕ) (x n : ℕ) (e : x ≡ key n) (before : Stamped key seen n) where
+  pub stamped-more : Stamped key (set seen x (n + 1)) (n + 1)
+  stamped-more = record {
+    long = length-set seen x (n + 1) ∙ before .long;
+    each = λ y h. last-put key seen x n y e (omega (arith, before .long)) (before .each y h);
+  }
+
+  pub stamped-past : 1024 ≤ x → Stamped key seen (n + 1)
+  stamped-past h = subst (λ a. Stamped key a (n + 1)) (set-out seen x (n + 1) (omega (arith, before .long))) stamped-more
 
 -- a hash taken up to place i
 pub hash-next : (a : List ℕ) (i h g : ℕ) → i < length a → g ≡ mixed h (getD a i 0) → hash g (drop (i + 1) a) ≡ hash h (drop i a)
@@ -186,21 +230,13 @@ module _ (key : ℕ → ℕ) where
         go (yes z) = rw z (getD-set-same a s v 0 (omega arith) ∙ p)
         go (no d) = getD-set-other a s x v 0 d ∙ g x (omega arith)
 
-    newest₂ : (x : ℕ) → x < 1021 → getD (set heads b (s + 1)) x 0 ≡ last (bucketAt key) x (s + 1)
-    unfolding last
-    newest₂ x l = rw (add-one s) (go (ℕ-discrete x b))
-      where
-        go : Dec (x ≡ b) → getD (set heads b (suc s)) x 0 ≡ cond (eqb (bucketAt key s) x) (suc s) (last (bucketAt key) x s)
-        go (yes z) = rw (z, eq-eqb (bucketAt key s) b (sym own)) (getD-set-same heads b (suc s) 0 (omega (arith, before .heads-long)))
-        go (no d) = getD-set-other heads b x (suc s) 0 d ∙ before .newest x l ∙ rw (ne-eqb (bucketAt key s) x (λ z. d (sym (own ∙ z))))
-
     pub chained-more : Chained key (set hashes s h) (set heads b (s + 1)) (set next s (getD heads b 0)) (s + 1)
     chained-more = record {
       hashes-long = length-set hashes s h ∙ before .hashes-long;
       heads-long = length-set heads b (s + 1) ∙ before .heads-long;
       next-long = length-set next s (getD heads b 0) ∙ before .next-long;
       hashed = put hashes h key (before .hashes-long) e (before .hashed);
-      newest = newest₂;
+      newest = λ x l. last-put (bucketAt key) heads b s x own (omega (arith, before .heads-long)) (before .newest x l);
       older =
           put next (getD heads b 0) (λ x. last (bucketAt key) (bucketAt key x) x) (before .next-long)
           (before .newest b (omega arith) ∙ ap (λ x. last (bucketAt key) x s) own) (before .older);

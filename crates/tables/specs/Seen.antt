@@ -38,3 +38,12 @@ pub record Chained (key : ℕ → ℕ) (hashes heads next : List ℕ) (s : ℕ) 
   pub hashed : (e : ℕ) → e < s → getD hashes e 0 ≡ key e
   pub newest : (b : ℕ) → b < 1021 → getD heads b 0 ≡ last (bucketAt key) b s
   pub older : (e : ℕ) → e < s → getD next e 0 ≡ last (bucketAt key) (bucketAt key e) e
+
+-- the symbol at place m of the members
+abbrev pub symbolAt : List ℕ → ℕ → ℕ
+symbolAt members m = getD members m 0
+
+-- the first n places: a stamp for each key, its last place
+pub record Stamped (key : ℕ → ℕ) (seen : List ℕ) (n : ℕ) : Type 0 where
+  pub long : length seen ≡ 1024
+  pub each : (x : ℕ) → x < 1024 → getD seen x 0 ≡ last key x n

@@ -25,16 +25,16 @@ returns c =
     let a = c .before .before .before .before .before .args in
     or-hit (leb (pairs (a .symbols .now)) (getD (a .members .now) (a .m) 0)) _ (le-leb (pairs (a .symbols .now)) (getD (a .members .now) (a .m) 0) (omega arith))
 
-twice-requires : tie.Need-twice-requires
-twice-requires c κs = tt
+stamped-twice-requires : tie.Need-stamped-twice-requires
+stamped-twice-requires c κs = (c .before .before .entry .ensures, c .before .before .before .before .before .pre)
 
 returns-2 : tie.Need-returns-2
 unfolding memberBad
 returns-2 c =
     let a = c .before .before .before .before .before .before .args in
-    c .twice .ensures ∙ or-skip (leb (pairs (a .symbols .now)) (getD (a .members .now) (a .m) 0)) (twice (a .members .now) (a .start) (a .m))
+    c .stamped-twice .ensures ∙ or-skip (leb (pairs (a .symbols .now)) (getD (a .members .now) (a .m) 0)) (twice (a .members .now) (a .start) (a .m))
     (lt-leb (pairs (a .symbols .now)) (getD (a .members .now) (a .m) 0) (omega arith))
 
 pub member-bad-spec : {M : Type 1} → statement M
 member-bad-spec =
-    tie.close (tie.spec entry-requires cast-symbol pairs-requires returns twice-requires returns-2)
+    tie.close (tie.spec entry-requires cast-symbol pairs-requires returns stamped-twice-requires returns-2)
