@@ -12,10 +12,10 @@ use Rattle.tables.specs.declared.numbering.Manner.{Manner}
 use Rattle.tables.specs.declared.numbering.Manner.the-variants.{Stored, RightFirst, RightThenBack}
 use lib.Dec.{eqb}
 use borrow.Author.Tests.{eq-eqb, ne-eqb}
-use Rattle.tables.specs.Record.{word, words, size, is-function}
+use Rattle.tables.specs.Record.{word, words, size}
 use Rattle.tables.specs.Forest.{Forest, none, first, next, forest}
 use Rattle.tables.specs.Numbering.{is-left, manner}
-use Rattle.tables.specs.Counting.{plus, own, shift, offset, start-of, base-down, caller-down, caller-word, wrong, found, tally, tally-left, Tallied}
+use Rattle.tables.specs.Counting.{plus, own, shift, offset, base-down, caller-word, wrong, tally, tally-left, Tallied}
 use Rattle.tables.proofs.ForestLaws.{Onward, first-onward, next-onward, forest-absent, forest-record}
 
 module _ (m : Manner) (b : Bool) (t l t′ l′ l″ : ℕ) where
@@ -182,11 +182,3 @@ module _ (recs funs : List ℕ) (r s v : ℕ) where
 pub base-turn : (recs all left up : List ℕ) (i v o s w d : ℕ) → o ≡ offset recs all left up i → s ≡ plus v o → w ≡ own (words recs i) → d ≡ plus s w
     → d ≡ base-down recs all left up i v
 base-turn recs all left up i v o s w d a b c e = e ∙ rw (b, a, c) refl
-
-pub caller-turn : (recs all left up base : List ℕ) (i v s d : ℕ) → s ≡ start-of recs all left up base i → d ≡ cond (is-function (words recs i)) (plus s 1) v
-    → d ≡ caller-down recs all left up base i v
-caller-turn recs all left up base i v s d a b = b ∙ rw a refl
-
-pub found-turn : (recs funs all left up base by : List ℕ) (r s : ℕ) (b t : Bool) → b ≡ wrong recs funs r s (getD by r 0) → s ≡ start-of recs all left up base r → b ≡ t
-    → found recs funs all left up base by r ≡ t
-found-turn recs funs all left up base by r s b t e p q = sym (rw p at e) ∙ q

@@ -27,6 +27,11 @@ pub handed-none : (a : List ℕ) (x v : ℕ) → x ≡ 0 → a ≡ handed a x v
 handed-none a zero v h = refl
 handed-none a (suc x) v h = absurd (omega arith)
 
+-- what is handed to no record does not matter
+handed-same : (a : List ℕ) (x s t : ℕ) → (0 < x → s ≡ t) → handed a x s ≡ handed a x t
+handed-same a zero s t h = refl
+handed-same a (suc x) s t h = ap (set a (suc x)) (h (omega arith))
+
 length-handed : (a : List ℕ) (x v : ℕ) → length (handed a x v) ≡ length a
 length-handed a zero v = refl
 length-handed a (suc x) v = length-set a (suc x) v
@@ -117,12 +122,12 @@ module _ (down : ℕ → ℕ → ℕ) (recs : List ℕ) (v : ℕ) where
 
   -- one turn: record i hands its value on to its first child and to its sibling
   pub handed-more : Joined recs → size recs ≤ 4096 → (a b c : List ℕ) (i x y t u : ℕ) → i < size recs → Handed down recs v i a → x ≡ first recs i → u ≡ getD a i 0
-      → t ≡ down i u
+      → (0 < x → t ≡ down i u)
       → (length a ≡ 4096 → b ≡ handed a x t) → y ≡ next recs i → (length b ≡ 4096 → c ≡ handed b y u) → Handed down recs v (i + 1) c
   handed-more j few a b c i x y t u h before p q d e s f = subst (λ z. Handed down recs v (i + 1) z) (sym last) (both j few a i h before)
     where
       first-put : b ≡ a₁ j few a i h before
-      first-put = e (before .long) ∙ rw (p, d, q) refl
+      first-put = e (before .long) ∙ handed-same a x t (down i u) d ∙ rw (p, q) refl
 
       last : c ≡ a₂ j few a i h before
       last = f (ap length first-put ∙ long₁ j few a i h before) ∙ rw (first-put, s, q) refl

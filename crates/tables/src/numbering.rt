@@ -3,7 +3,7 @@ ghost use mathlib.Core.Path.{_≡_};
 ghost use mathlib.Core.Bool.{cond};
 ghost use Prim.Native.Nat.{ℕ, _+_, _-_, _<_, _≤_, min};
 ghost use lib.ListN.{length, getD};
-ghost use Rattle.tables.specs.Record.{word as wordOf, words, size as sizeOf, is-function};
+ghost use Rattle.tables.specs.Record.{word as wordOf, words, size as sizeOf};
 ghost use Rattle.tables.specs.Naming.{Joined};
 ghost use Rattle.tables.specs.Scratch.{Handed};
 ghost use Rattle.tables.specs.Numbering.{manner as mannerOf, is-left, numbering as numberingOf};
@@ -168,6 +168,26 @@ fn start(
     plus(base[x], offset(recs, all, left, up, x))
 }
 
+// Where the numbers of the children of record r begin, for one that has a first child f.
+fn below(
+    recs: &[u32],
+    all: &[u16; 4096],
+    left: &[u16; 4096],
+    up: &[u16; 4096],
+    r: usize,
+    f: usize,
+    v: u16,
+) -> u16
+    requires { ⌜ sizeOf (now recs) ≤ 4096 ⌝ ∗ ⌜ r < 4096 ⌝ }
+    ensures { λ d. ⌜ (0 < f → d ≡ base-down (now (recs .entry)) (now (all .entry)) (now (left .entry)) (now (up .entry)) r v) ⌝ }
+{
+    if f == 0 {
+        return 0;
+    }
+    let s = plus(v, offset(recs, all, left, up, r));
+    plus(s, own(recs, r))
+}
+
 // Where each of the first n records' siblings begin their numbers, handed down from their parent.
 fn bases(
     recs: &[u32],
@@ -184,21 +204,30 @@ fn bases(
     let mut i: usize = 0;
     while i < n {
         let v = a[i];
-        let s = plus(v, offset(recs, all, left, up, i));
-        let d = plus(s, own(recs, i));
-        scratch::hand(&mut a, ast::first(recs, i), d);
+        let f = ast::first(recs, i);
+        let d = below(recs, all, left, up, i, f, v);
+        scratch::hand(&mut a, f, d);
         scratch::hand(&mut a, ast::next(recs, i), v);
         i += 1;
     }
     a
 }
 
-// One more than s for a Function, else v.
-fn caller(recs: &[u32], r: usize, s: u16, v: u16) -> u16
-    ensures { λ n. ⌜ n ≡ cond (is-function (words (now (recs .entry)) r)) (plusOf s 1) v ⌝ }
+// What record r hands to its children: one more than its own number for a Function, else v.
+fn caller(
+    recs: &[u32],
+    all: &[u16; 4096],
+    left: &[u16; 4096],
+    up: &[u16; 4096],
+    base: &[u16; 4096],
+    r: usize,
+    v: u16,
+) -> u16
+    requires { ⌜ sizeOf (now recs) ≤ 4096 ⌝ ∗ ⌜ r < 4096 ⌝ }
+    ensures { λ n. ⌜ n ≡ caller-down (now (recs .entry)) (now (all .entry)) (now (left .entry)) (now (up .entry)) (now (base .entry)) r v ⌝ }
 {
     if ast::kind(recs, r) == 30 {
-        plus(s, 1)
+        plus(start(recs, all, left, up, base, r), 1)
     } else {
         v
     }
@@ -221,7 +250,7 @@ fn callers(
     let mut i: usize = 0;
     while i < n {
         let v = a[i];
-        let d = caller(recs, i, start(recs, all, left, up, base, i), v);
+        let d = caller(recs, all, left, up, base, i, v);
         scratch::hand(&mut a, ast::first(recs, i), d);
         scratch::hand(&mut a, ast::next(recs, i), v);
         i += 1;
@@ -242,13 +271,25 @@ fn caller_word(v: u16) -> u32
     if v == 0 { 4294967295 } else { (v - 1) as u32 }
 }
 
-// A Function at place s in visiting order, inside function v, with another number or parent.
-fn is_wrong(recs: &[u32], funs: &[u32], r: usize, s: u16, v: u16) -> bool
-    ensures { λ b. ⌜ b ≡ wrong (now (recs .entry)) (now (funs .entry)) r s v ⌝ }
+// A Function inside function v with another number or parent.
+fn is_wrong(
+    recs: &[u32],
+    funs: &[u32],
+    all: &[u16; 4096],
+    left: &[u16; 4096],
+    up: &[u16; 4096],
+    base: &[u16; 4096],
+    r: usize,
+    v: u16,
+) -> bool
+    requires { ⌜ sizeOf (now recs) ≤ 4096 ⌝ ∗ ⌜ r < 4096 ⌝ }
+    ensures { λ b. ⌜ b ≡ wrong (now (recs .entry)) (now (funs .entry)) r
+        (start-of (now (recs .entry)) (now (all .entry)) (now (left .entry)) (now (up .entry)) (now (base .entry)) r) v ⌝ }
 {
     if ast::kind(recs, r) != 30 {
         return false;
     }
+    let s = start(recs, all, left, up, base, r);
     if ast::p(recs, r) != s as u32 {
         return true;
     }
@@ -273,7 +314,7 @@ fn searched(
     let n = ast::size(recs);
     let mut r: usize = 0;
     while r < n {
-        if is_wrong(recs, funs, r, start(recs, all, left, up, base, r), by[r]) {
+        if is_wrong(recs, funs, all, left, up, base, r, by[r]) {
             return Broken::At(r);
         }
         r += 1;

@@ -58,7 +58,7 @@ loop-again c =
       omega arith,
       λ e j.
           handed-more _ _ _ j (omega (arith, m .before .before .before .pre)) (m .loop .a) _ _ (m .loop .i) _ _ _ _ (omega arith) (m .loop .inv .1 e j)
-          (c5 .first .ensures) refl (c4 .deeper .ensures) (c .before .before .before .hand .ensures)
+          (c5 .first .ensures) refl (λ h. c4 .deeper .ensures) (c .before .before .before .hand .ensures)
           (c .before .next .ensures) (c .hand2 .ensures),
     )
 

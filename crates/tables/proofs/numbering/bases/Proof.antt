@@ -7,7 +7,6 @@ use Rattle.tables.specs.Naming.{Joined}
 use Rattle.tables.specs.Scratch.{Handed}
 use Rattle.tables.proofs.HandLaws.{handed-zeros, handed-more}
 use Rattle.tables.specs.Counting.{base-down}
-use Rattle.tables.proofs.CountLaws.{base-turn}
 use Rattle.tables.proofs.numbering.bases.Statement.{statement}
 use Rattle.tables.proofs.numbering.bases.Tie as tie
 
@@ -29,20 +28,11 @@ mul-v c = search needs
 array-read-v : tie.Need-array-read-v Inv-loop μ-loop
 array-read-v c = search needs
 
-offset-requires : tie.Need-offset-requires Inv-loop μ-loop
-offset-requires c κs = (c .before .before .before .before .pre .1, omega arith)
-
-plus-requires : tie.Need-plus-requires Inv-loop μ-loop
-plus-requires c κs = tt
-
-own-requires : tie.Need-own-requires Inv-loop μ-loop
-own-requires c κs = tt
-
-plus-requires-2 : tie.Need-plus-requires-2 Inv-loop μ-loop
-plus-requires-2 c κs = tt
-
 first-requires : tie.Need-first-requires Inv-loop μ-loop
 first-requires c κs = tt
+
+below-requires : tie.Need-below-requires Inv-loop μ-loop
+below-requires c κs = (c .before .before .before .before .before .pre .1, omega arith)
 
 hand-requires : tie.Need-hand-requires Inv-loop μ-loop
 hand-requires c κs = tt
@@ -61,16 +51,13 @@ loop-less c = omega arith
 
 loop-again : tie.Need-loop-again Inv-loop μ-loop
 loop-again c =
-    let c4 = c .before .before .before .before in let c6 = c4 .before .before in let c7 = c6 .before in let c8 = c7 .before in let c9 = c8 .before in
-    let c11 = c9 .before .before in let c14 = c11 .before .before .before in
-    let l = c11 .loop in
-    let s = c14 .args in (
+    let c5 = c .before .before .before .before .before in let c8 = c5 .before .before .before in let c11 = c8 .before .before .before in
+    let l = c8 .loop in
+    let s = c11 .args in (
       omega arith,
       λ e j.
-          handed-more (base-down (s .recs .now) (s .all .now) (s .left .now) (s .up .now)) _ _ j (c14 .pre .1) (l .a) _ _ (l .i) _ _ _ _ (omega arith) (l .inv .1 e j)
-          (c4 .first .ensures) refl (base-turn _ _ _ _ _ _ _ _ _ _ (c9 .offset .ensures) (c8 .plus .ensures) (c7 .own .ensures) (c6 .plus2 .ensures))
-          (c .before .before .before .hand .ensures) (c .before .next .ensures)
-          (c .hand2 .ensures),
+          handed-more (base-down (s .recs .now) (s .all .now) (s .left .now) (s .up .now)) _ _ j (c11 .pre .1) (l .a) _ _ (l .i) _ _ _ _ (omega arith) (l .inv .1 e j)
+          (c5 .before .first .ensures) refl (c5 .below .ensures) (c .before .before .before .hand .ensures) (c .before .next .ensures) (c .hand2 .ensures),
     )
 
 returns : tie.Need-returns Inv-loop μ-loop
@@ -91,11 +78,8 @@ bases-spec =
     loop-holds
     mul-v
     array-read-v
-    offset-requires
-    plus-requires
-    own-requires
-    plus-requires-2
     first-requires
+    below-requires
     hand-requires
     next-requires
     hand-requires-2

@@ -7,7 +7,6 @@ use Rattle.tables.specs.Naming.{Joined}
 use Rattle.tables.specs.Scratch.{Handed}
 use Rattle.tables.proofs.HandLaws.{handed-zeros, handed-more}
 use Rattle.tables.specs.Counting.{caller-down}
-use Rattle.tables.proofs.CountLaws.{caller-turn}
 use Rattle.tables.proofs.numbering.callers.Statement.{statement}
 use Rattle.tables.proofs.numbering.callers.Tie as tie
 
@@ -29,11 +28,8 @@ mul-v c = search needs
 array-read-v : tie.Need-array-read-v Inv-loop μ-loop
 array-read-v c = search needs
 
-start-requires : tie.Need-start-requires Inv-loop μ-loop
-start-requires c κs = (c .before .before .before .before .pre .1, omega arith)
-
 caller-requires : tie.Need-caller-requires Inv-loop μ-loop
-caller-requires c κs = tt
+caller-requires c κs = (c .before .before .before .before .pre .1, omega arith)
 
 first-requires : tie.Need-first-requires Inv-loop μ-loop
 first-requires c κs = tt
@@ -55,16 +51,14 @@ loop-less c = omega arith
 
 loop-again : tie.Need-loop-again Inv-loop μ-loop
 loop-again c =
-    let c4 = c .before .before .before .before in let c6 = c4 .before .before in let c7 = c6 .before in let c9 = c7 .before .before in
-    let c12 = c9 .before .before .before in
-    let l = c9 .loop in
-    let s = c12 .args in (
+    let c4 = c .before .before .before .before in let c6 = c4 .before .before in let c8 = c6 .before .before in let c11 = c8 .before .before .before in
+    let l = c8 .loop in
+    let s = c11 .args in (
       omega arith,
       λ e j.
-          handed-more (caller-down (s .recs .now) (s .all .now) (s .left .now) (s .up .now) (s .base .now)) _ _ j (c12 .pre .1) (l .a) _ _ (l .i) _ _ _ _
+          handed-more (caller-down (s .recs .now) (s .all .now) (s .left .now) (s .up .now) (s .base .now)) _ _ j (c11 .pre .1) (l .a) _ _ (l .i) _ _ _ _
           (omega arith) (l .inv .1 e j)
-          (c4 .first .ensures) refl (caller-turn (s .recs .now) (s .all .now) (s .left .now) (s .up .now) (s .base .now) (l .i) _ _ _ (c7 .start .ensures)
-          (c6 .caller .ensures)) (c .before .before .before .hand .ensures) (c .before .next .ensures) (c .hand2 .ensures),
+          (c4 .first .ensures) refl (λ h. c6 .caller .ensures) (c .before .before .before .hand .ensures) (c .before .next .ensures) (c .hand2 .ensures),
     )
 
 returns : tie.Need-returns Inv-loop μ-loop
@@ -86,7 +80,6 @@ callers-spec =
     loop-holds
     mul-v
     array-read-v
-    start-requires
     caller-requires
     first-requires
     hand-requires

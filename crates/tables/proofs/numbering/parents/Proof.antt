@@ -54,7 +54,7 @@ loop-again c =
     let l = c7 .loop in (
       omega arith,
       λ e j.
-          handed-more (λ r v. r) _ _ j (omega (arith, c10 .pre)) (l .a) _ _ (l .i) _ _ _ _ (omega arith) (l .inv .1 e j) (c4 .first .ensures) refl refl
+          handed-more (λ r v. r) _ _ j (omega (arith, c10 .pre)) (l .a) _ _ (l .i) _ _ _ _ (omega arith) (l .inv .1 e j) (c4 .first .ensures) refl (λ h. refl)
           (c .before .before .before .hand .ensures)
           (c .before .next .ensures) (c .hand2 .ensures),
     )

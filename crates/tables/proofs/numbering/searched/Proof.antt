@@ -4,7 +4,6 @@ use native.Mathlib.Omega.{arith}
 use Rattle.tables.specs.Record.{size}
 use Rattle.tables.specs.Place.{broken}
 use Rattle.tables.specs.Counting.{found}
-use Rattle.tables.proofs.CountLaws.{found-turn}
 use Rattle.tables.proofs.PlaceLaws.{rest, rest-start, rest-on, rest-at, rest-end}
 use Rattle.tables.proofs.numbering.searched.Statement.{statement}
 use Rattle.tables.proofs.numbering.searched.Tie as tie
@@ -23,28 +22,24 @@ loop-holds c = rest-start (found (c .before .before .before .args .recs .now) (c
     (c .before .before .before .args .left .now) (c .before .before .before .args .up .now) (c .before .before .before .args .base .now)
     (c .before .before .before .args .by .now)) _
 
-start-requires : tie.Need-start-requires Inv-loop μ-loop
-start-requires c κs =
-    let c5 = c .before .before .before .before .before in
-    (c5 .pre, omega (arith, c .before .before .size .ensures, c5 .pre))
-
 mul-is-wrong : tie.Need-mul-is-wrong Inv-loop μ-loop
-mul-is-wrong c = omega (arith, c .before .before .before .size .ensures, c .before .before .before .before .before .before .pre)
+mul-is-wrong c = omega (arith, c .before .before .size .ensures, c .before .before .before .before .before .pre)
 
 element-copy-out-is-wrong : tie.Need-element-copy-out-is-wrong Inv-loop μ-loop
-element-copy-out-is-wrong c = omega (arith, c .before .before .before .size .ensures, c .before .before .before .before .before .before .pre)
+element-copy-out-is-wrong c = omega (arith, c .before .before .size .ensures, c .before .before .before .before .before .pre)
 
 is-wrong-requires : tie.Need-is-wrong-requires Inv-loop μ-loop
-is-wrong-requires c κs = tt
+is-wrong-requires c κs =
+    let c3 = c .before .before .before in let c6 = c3 .before .before .before in
+    (c6 .pre, omega (arith, c3 .size .ensures, c6 .pre))
 
 returns : tie.Need-returns Inv-loop μ-loop
 returns c =
-    let c5 = c .before .before .before .before .before in let c6 = c5 .before in let c9 = c6 .before .before .before in
-    sym (rest-at (found (c9 .args .recs .now) (c9 .args .funs .now) (c9 .args .all .now) (c9 .args .left .now) (c9 .args .up .now) (c9 .args .base .now)
-    (c9 .args .by .now)) _ (c5 .loop .r) (omega (arith, c6 .size .ensures))
-    (found-turn (c9 .args .recs .now) (c9 .args .funs .now) (c9 .args .all .now) (c9 .args .left .now) (c9 .args .up .now) (c9 .args .base .now) (c9 .args .by .now)
-    (c5 .loop .r) _ _ _ (c .before .is-wrong .ensures) (c .before .before .before .start .ensures) (c .if1 .taken)))
-    ∙ c5 .loop .inv
+    let c4 = c .before .before .before .before in let c5 = c4 .before in let c8 = c5 .before .before .before in
+    sym (rest-at (found (c8 .args .recs .now) (c8 .args .funs .now) (c8 .args .all .now) (c8 .args .left .now) (c8 .args .up .now) (c8 .args .base .now)
+    (c8 .args .by .now)) _ (c4 .loop .r) (omega (arith, c5 .size .ensures))
+    (sym (c .before .is-wrong .ensures) ∙ c .if1 .taken))
+    ∙ c4 .loop .inv
 
 add-r : tie.Need-add-r Inv-loop μ-loop
 add-r c = omega arith
@@ -54,12 +49,11 @@ loop-less c = omega arith
 
 loop-again : tie.Need-loop-again Inv-loop μ-loop
 loop-again c =
-    let c5 = c .before .before .before .before .before in let c6 = c5 .before in let c9 = c6 .before .before .before in
-    sym (rest-on (found (c9 .args .recs .now) (c9 .args .funs .now) (c9 .args .all .now) (c9 .args .left .now) (c9 .args .up .now) (c9 .args .base .now)
-    (c9 .args .by .now)) _ (c5 .loop .r) (omega (arith, c6 .size .ensures))
-    (found-turn (c9 .args .recs .now) (c9 .args .funs .now) (c9 .args .all .now) (c9 .args .left .now) (c9 .args .up .now) (c9 .args .base .now) (c9 .args .by .now)
-    (c5 .loop .r) _ _ _ (c .before .is-wrong .ensures) (c .before .before .before .start .ensures) (c .if1 .left)))
-    ∙ c5 .loop .inv
+    let c4 = c .before .before .before .before in let c5 = c4 .before in let c8 = c5 .before .before .before in
+    sym (rest-on (found (c8 .args .recs .now) (c8 .args .funs .now) (c8 .args .all .now) (c8 .args .left .now) (c8 .args .up .now) (c8 .args .base .now)
+    (c8 .args .by .now)) _ (c4 .loop .r) (omega (arith, c5 .size .ensures))
+    (sym (c .before .is-wrong .ensures) ∙ c .if1 .left))
+    ∙ c4 .loop .inv
 
 returns-2 : tie.Need-returns-2 Inv-loop μ-loop
 returns-2 c =
@@ -75,7 +69,6 @@ searched-spec =
     μ-loop
     size-requires
     loop-holds
-    start-requires
     mul-is-wrong
     element-copy-out-is-wrong
     is-wrong-requires
