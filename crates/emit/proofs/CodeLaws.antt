@@ -1,12 +1,12 @@
 -- Laws of push_code, push_if and leave: one for each way out. Assumes nothing.
 use mathlib.Core.Path.{_≡_, refl, sym, ap, ap₂, subst, _∙_}
-use mathlib.Core.Bool.{Bool, true, false}
+use mathlib.Core.Bool.{Bool, true, false, cond}
 use mathlib.Core.List.{List, [], _∷_}
 use Prim.Native.Nat.{ℕ, suc, _+_, _*_, _-_, _≤_, _<_}
 use native.Mathlib.Omega.{arith}
 use lib.ListN.{length, getD}
-use lib.Dec.{eqb}
-use borrow.Author.Tests.{eq-eqb, ne-eqb}
+use lib.Dec.{eqb, ltb}
+use borrow.Author.Tests.{eq-eqb, ne-eqb, ltb-true, ltb-false}
 use Rattle.opcode.specs.declared.opcode.Words.{Words as MarkerWords}
 use Rattle.opcode.specs.Words.{pairOf}
 use Rattle.tables.specs.Record.{Words}
@@ -18,7 +18,7 @@ use Rattle.rules.specs.Marker.{Way, Break, Continue, Op, Label, To, Back, Leave
 use Rattle.rules.specs.Run.{Loop, loop, State, st, marks, labels, loops, flow, emit, halt, way-kind, label-of, way-out, outward}
 use Rattle.rules.specs.Out.{consts, code-word, operand-word, way-number}
 use Rattle.emit.specs.Sim.{limit, cap, more, Outs, outs, put2, lay, Flat, Stack, Rep, Step, Moves, Shown, Emits}
-use Rattle.emit.specs.Sinks.{EmitsIf, Leaves}
+use Rattle.emit.specs.Sinks.{writes, EmitsIf, Leaves}
 use Rattle.emit.specs.Flows.{isGo}
 use Rattle.emit.specs.declared.run.Run.{Run}
 use Rattle.emit.proofs.Basics.{clash, on-true, on-false, is-go, shape, more-cap, no-emit}
@@ -30,7 +30,7 @@ counted s k = record { at = s .at + 1; labels = s .labels; loops = s .loops; dep
 
 -- ---- in a nested walk no marker is written, and of markers nothing is said
 
-pub nest-emit : (recs : List ℕ) (nest : Bool) (o : Outs) (s : Run) (x : Mark) → nest ≡ true → Moves recs nest o s o s (emit x)
+nest-emit : (recs : List ℕ) (nest : Bool) (o : Outs) (s : Run) (x : Mark) → nest ≡ true → Moves recs nest o s o s (emit x)
 unfolding emit
 nest-emit recs nest o s x n = record { moves = λ o₀ A h. go o₀ A h }
   where
@@ -50,14 +50,8 @@ nest-emit recs nest o s x n = record { moves = λ o₀ A h. go o₀ A h }
     go o₀ (st m l ls os (Cut k a b) e) h = h
     go o₀ (st m l ls os (Refused y r) e) h = h
 
-pub push-nest : (nest : Bool) (o : List ℕ) (s : Run) (w : MarkerWords) → nest ≡ true → Emits nest o s o s w
-push-nest nest o s w n = record { emits = λ recs cs r x q. nest-emit recs nest (outs o cs) s (mark r x) n }
-
-pub still-emit : (recs : List ℕ) (nest : Bool) (o : Outs) (s : Run) (x : Mark) → isGo (s .flow) ≡ false → Moves recs nest o s o s (emit x)
+still-emit : (recs : List ℕ) (nest : Bool) (o : Outs) (s : Run) (x : Mark) → isGo (s .flow) ≡ false → Moves recs nest o s o s (emit x)
 still-emit recs nest o s x n = stays (emit x) (no-emit x) o s n
-
-pub push-still : (nest : Bool) (o : List ℕ) (s : Run) (w : MarkerWords) → isGo (s .flow) ≡ false → Emits nest o s o s w
-push-still nest o s w n = record { emits = λ recs cs r x q. still-emit recs nest (outs o cs) s (mark r x) n }
 
 -- ---- a marker that names no constant
 
@@ -101,7 +95,7 @@ marked recs o₀ m o o′ cs at count w r x q lt e h =
       place = omega arith;
     }
 
-pub push-goes : (nest : Bool) (o o′ : List ℕ) (s : Run) (w : MarkerWords) → nest ≡ false → isGo (s .flow) ≡ true → s .at < limit → o′ ≡ put2 o (s .at) (w .code) (w .operand)
+push-goes : (nest : Bool) (o o′ : List ℕ) (s : Run) (w : MarkerWords) → nest ≡ false → isGo (s .flow) ≡ true → s .at < limit → o′ ≡ put2 o (s .at) (w .code) (w .operand)
     → Emits nest o s o′ (counted s (s .count)) w
 unfolding emit
 push-goes nest o o′ s w n g lt e =
@@ -130,7 +124,7 @@ full recs o₀ x m o at count le h =
     let p : at ≡ cap (length m) = h .place in
     record { wrote = λ room. let few : suc (length m) < limit = room .few in absurd (omega arith); place = omega arith }
 
-pub full-emit : (recs : List ℕ) (nest : Bool) (o : Outs) (s : Run) (x : Mark) → nest ≡ false → isGo (s .flow) ≡ true → limit ≤ s .at → Moves recs nest o s o s (emit x)
+full-emit : (recs : List ℕ) (nest : Bool) (o : Outs) (s : Run) (x : Mark) → nest ≡ false → isGo (s .flow) ≡ true → limit ≤ s .at → Moves recs nest o s o s (emit x)
 unfolding emit
 full-emit recs nest o s x n g le =
     record {
@@ -149,8 +143,31 @@ full-emit recs nest o s x n g le =
           });
     }
 
-pub push-full : (nest : Bool) (o : List ℕ) (s : Run) (w : MarkerWords) → nest ≡ false → isGo (s .flow) ≡ true → limit ≤ s .at → Emits nest o s o s w
-push-full nest o s w n g le = record { emits = λ recs cs r x q. full-emit recs nest (outs o cs) s (mark r x) n g le }
+-- ---- by `writes`
+
+-- where it is no, the words and the struct stay
+pub no-marker : (recs : List ℕ) (nest : Bool) (o : Outs) (s : Run) (x : Mark) → writes nest (isGo (s .flow)) (s .at) ≡ false → Moves recs nest o s o s (emit x)
+no-marker recs nest o s x e = by-case nest (isGo (s .flow)) (ltb (s .at) limit) refl refl refl e
+  where
+    by-case : (a g b : Bool) → nest ≡ a → isGo (s .flow) ≡ g → ltb (s .at) limit ≡ b → cond a false (cond g b false) ≡ false → Moves recs nest o s o s (emit x)
+    by-case true g b n q lt e = nest-emit recs nest o s x n
+    by-case false false b n q lt e = still-emit recs nest o s x q
+    by-case false true true n q lt e = absurd (clash e)
+    by-case false true false n q lt e = full-emit recs nest o s x n q (ltb-false (s .at) limit lt)
+
+-- where it is yes, the walk is without the functions inside, goes on and has a place
+pub writes-so : (nest g : Bool) (at : ℕ) → writes nest g at ≡ true → (nest ≡ false) × (g ≡ true) × (at < limit)
+writes-so true g at e = absurd (clash (sym e))
+writes-so false false at e = absurd (clash (sym e))
+writes-so false true at e = (refl, refl, ltb-true at limit e)
+
+pub push-no : (nest : Bool) (o : List ℕ) (s : Run) (w : MarkerWords) (g : Bool) → g ≡ isGo (s .flow) → writes nest g (s .at) ≡ false → Emits nest o s o s w
+push-no nest o s w g q e =
+    record { emits = λ recs cs r x z. no-marker recs nest (outs o cs) s (mark r x) (ap (λ (b : Bool). writes nest b (s .at)) (sym q) ∙ e) }
+
+pub push-yes : (nest : Bool) (o o′ : List ℕ) (s : Run) (w : MarkerWords) (g : Bool) → g ≡ isGo (s .flow) → writes nest g (s .at) ≡ true
+    → o′ ≡ put2 o (s .at) (w .code) (w .operand) → Emits nest o s o′ (counted s (s .count)) w
+push-yes nest o o′ s w g q e eo = let y = writes-so nest g (s .at) e in push-goes nest o o′ s w (y .0) (sym q ∙ y .1) (y .2) eo
 
 pub push-as : (nest : Bool) (o o′ : List ℕ) (s s′ : Run) (v w : MarkerWords) → v ≡ w → Emits nest o s o′ s′ v → Emits nest o s o′ s′ w
 push-as nest o o′ s s′ v w e h = subst (λ (u : MarkerWords). Emits nest o s o′ s′ u) e h

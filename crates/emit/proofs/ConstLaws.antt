@@ -16,12 +16,12 @@ use Rattle.rules.specs.Marker.{ConstOp, Label, To, Back, Leave, Load, Do, Mark,
 use Rattle.rules.specs.Run.{marks, emit}
 use Rattle.rules.specs.Out.{consts, brought, const-number}
 use Rattle.emit.specs.Sim.{limit, cap, Outs, outs, put2, lay, Flat, Loads}
-use Rattle.emit.specs.Sinks.{last-word}
+use Rattle.emit.specs.Sinks.{writes, last-word, Named}
 use Rattle.emit.specs.Flows.{isGo}
 use Rattle.emit.specs.declared.run.Run.{Run}
 use Rattle.emit.proofs.Basics.{clash, on-true, is-go, shape}
 use Rattle.emit.proofs.StateLaws.{given, goes}
-use Rattle.emit.proofs.CodeLaws.{counted, nest-emit, still-emit, full-emit}
+use Rattle.emit.proofs.CodeLaws.{counted, no-marker, writes-so}
 
 -- markers name no more constants than they are, but for Null
 pub table-short : (m : List Mark) → length (consts m) ≤ suc (length m)
@@ -49,15 +49,10 @@ last-const recs k l h = go (eqb k 7)
 last-zero : (k h h′ : ℕ) → h′ ≡ last-word k h → k ≡ 7 → h′ ≡ 0
 last-zero k h h′ e q = e ∙ on-true (eqb k 7) 0 h (eq-eqb k 7 q)
 
-module _ (recs : List ℕ) (nest : Bool) (o : Outs) (s : Run) (c : ConstOp) (k l h : ℕ) where
-  pub const-nest : nest ≡ true → Loads recs nest o s o s c k l h
-  const-nest n = record { loads = λ q v e. nest-emit recs nest o s (mark q (Load c v)) n }
-
-  pub const-still : isGo (s .flow) ≡ false → Loads recs nest o s o s c k l h
-  const-still n = record { loads = λ q v e. still-emit recs nest o s (mark q (Load c v)) n }
-
-  pub const-full : nest ≡ false → isGo (s .flow) ≡ true → limit ≤ s .at → Loads recs nest o s o s c k l h
-  const-full n g le = record { loads = λ q v e. full-emit recs nest o s (mark q (Load c v)) n g le }
+pub const-no : (recs : List ℕ) (nest : Bool) (o : Outs) (s : Run) (c : ConstOp) (k l h : ℕ) (g : Bool) → g ≡ isGo (s .flow) → writes nest g (s .at) ≡ false
+    → Loads recs nest o s o s c k l h
+const-no recs nest o s c k l h g q e =
+    record { loads = λ p v z. no-marker recs nest o s (mark p (Load c v)) (ap (λ (b : Bool). writes nest b (s .at)) (sym q) ∙ e) }
 
 -- ---- the constant is added and named
 
@@ -100,7 +95,7 @@ module _ (recs o o′ cs cs′ : List ℕ) (at count : ℕ) (c : ConstOp) (k l h
         place = omega arith;
       }
 
-pub const-goes : (recs : List ℕ) (nest : Bool) (o o′ cs cs′ : List ℕ) (s : Run) (c : ConstOp) (k l h h′ : ℕ) (a : Added) (i n : ℕ) → nest ≡ false → isGo (s .flow) ≡ true
+const-goes : (recs : List ℕ) (nest : Bool) (o o′ cs cs′ : List ℕ) (s : Run) (c : ConstOp) (k l h h′ : ℕ) (a : Added) (i n : ℕ) → nest ≡ false → isGo (s .flow) ≡ true
     → s .at < limit → h′ ≡ last-word k h → a ≡ added (table recs cs (s .count)) (room cs (s .count)) (const-of recs k l h′) → cs′ ≡ written recs cs (s .count) k l h′
     → i ≡ index-of a → n ≡ count-of a → o′ ≡ put2 o (s .at) (const-number c) (cap i) → Loads recs nest (outs o cs) s (outs o′ cs′) (counted s n) c k l h
 unfolding emit
@@ -122,4 +117,23 @@ const-goes recs nest o o′ cs cs′ s c k l h h′ a i n f g lt eh ea ew ei en 
                   met = y .met;
                 });
           };
+    }
+
+pub const-yes : (recs : List ℕ) (nest : Bool) (o o′ cs cs′ : List ℕ) (s : Run) (c : ConstOp) (k l h n : ℕ) (g : Bool) → g ≡ isGo (s .flow)
+    → writes nest g (s .at) ≡ true → Named recs (outs o cs) (outs o′ cs′) (s .at) (s .count) n c k l h
+    → Loads recs nest (outs o cs) s (outs o′ cs′) (counted s n) c k l h
+const-yes recs nest o o′ cs cs′ s c k l h n g q e d =
+    let y = writes-so nest g (s .at) e in
+    const-goes recs nest o o′ cs cs′ s c k l h (last-word k h) _ _ n (y .0) (sym q ∙ y .1) (y .2) refl refl (d .consts) refl (d .count) (d .marker)
+
+-- what the calls of put_named say, one after the other
+pub named : (recs o o′ cs cs′ : List ℕ) (at n m : ℕ) (c : ConstOp) (k l h h′ i : ℕ) (a : Added) → h′ ≡ last-word k h
+    → a ≡ added (table recs cs n) (room cs n) (const-of recs k l h′) → cs′ ≡ written recs cs n k l h′ → i ≡ index-of a → o′ ≡ put2 o at (const-number c) (cap i)
+    → m ≡ count-of a → Named recs (outs o cs) (outs o′ cs′) at n m c k l h
+named recs o o′ cs cs′ at n m c k l h h′ i a eh ea ew ei eo em =
+    let e = ea ∙ ap (λ (x : ℕ). added (table recs cs n) (room cs n) (const-of recs k l x)) eh in
+    record {
+      consts = ew ∙ ap (λ (x : ℕ). written recs cs n k l x) eh;
+      marker = eo ∙ ap (λ (x : ℕ). put2 o at (const-number c) (cap x)) (ei ∙ ap index-of e);
+      count = em ∙ ap count-of e;
     }

@@ -21,7 +21,7 @@ ghost use Rattle.tables.specs.Record.{words as recordOf};
 ghost use Rattle.rules.specs.Run.{way-kind, label-of};
 ghost use Rattle.rules.specs.Out.{way-number};
 ghost use Rattle.emit.specs.Sim.{put2 as put2Of, more, Emits};
-ghost use Rattle.emit.specs.Sinks.{EmitsIf, Leaves, wayOf};
+ghost use Rattle.emit.specs.Sinks.{writes as writesOf, EmitsIf, Leaves, wayOf};
 
 // The two opcodes that leave a loop's body.
 pub enum Way {
@@ -42,23 +42,29 @@ pub fn put2(out: &mut [u32], n: usize, code: u32, operand: u32)
     }
 }
 
-// One marker more, where the run goes on; in a nested walk no marker is written.
+// Whether a marker is written at this place: in a walk with the functions inside none is.
+pub fn writes(nest: bool, go: bool, at: usize) -> bool
+    ensures { λ b. ⌜ b ≡ writesOf nest go at ⌝ }
+{
+    if nest {
+        return false;
+    }
+    if go { at < LIMIT } else { false }
+}
+
+// One marker more, where the run goes on. The struct is copied once, after the words are written.
 pub fn push_words(nest: bool, out: &mut [u32], st: Run, w: Words) -> Run
     ensures { λ s. ⌜ Emits nest (now (out .entry)) st (now (out .exit)) s w ⌝ }
 {
-    if nest {
-        return st;
+    let at = st.at;
+    let mut n = at;
+    if writes(nest, going(st), at) {
+        put2(out, at, w.code, w.operand);
+        n = at + 1;
     }
-    if going(st) {
-        let at = st.at;
-        let mut s = st;
-        if at < LIMIT {
-            put2(out, at, w.code, w.operand);
-            s.at = at + 1;
-            return s;
-        }
-    }
-    st
+    let mut s = st;
+    s.at = n;
+    s
 }
 
 pub fn push_code(nest: bool, out: &mut [u32], st: Run, m: CodeMarker) -> Run

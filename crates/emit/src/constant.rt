@@ -1,5 +1,6 @@
 // push_load_const, and add_const with the two opcodes that import: a constant is put into the table, and a marker names it.
 use crate::code::put2;
+use crate::code::writes;
 use crate::flow::going;
 use crate::label::LIMIT;
 use crate::run::Run;
@@ -15,7 +16,7 @@ ghost use Rattle.pool.specs.Consts.{index-of, count-of};
 ghost use Rattle.rules.specs.Marker.{LoadConst as LoadConstOp};
 ghost use Rattle.rules.specs.Out.{const-number};
 ghost use Rattle.emit.specs.Sim.{put2 as put2Of, cap, outs, Loads};
-ghost use Rattle.emit.specs.Sinks.{constOf, last-word};
+ghost use Rattle.emit.specs.Sinks.{constOf, last-word, Named};
 
 // The opcodes that name a constant.
 pub enum ConstCode {
@@ -93,7 +94,29 @@ fn put_const(out: &mut [u32], at: usize, code: ConstCode, i: usize)
     put2(out, at, w.code, w.operand);
 }
 
-// The constant of these words is put into the table, where it is not there, and named.
+// The constant of these words is put into the table, where it is not there, and named by marker `at`; how many constants there are then.
+fn put_named(
+    records: &[u32],
+    out: &mut [u32],
+    cs: &mut [u32],
+    at: usize,
+    n: usize,
+    code: ConstCode,
+    kind: u32,
+    low: u32,
+    high: u32,
+) -> usize
+    ensures { λ m. ⌜ Named (now (records .entry)) (outs (now (out .entry)) (now (cs .entry))) (outs (now (out .exit)) (now (cs .exit)))
+        at n m (constOf code) kind low high ⌝ }
+{
+    let h = last(kind, high);
+    let added = add_const(records, cs, n, kind, low, h);
+    let i = index(added);
+    put_const(out, at, code, i);
+    count(added)
+}
+
+// A constant, and one marker more that names it, where the run goes on.
 pub fn push_const(
     nest: bool,
     records: &[u32],
@@ -108,24 +131,18 @@ pub fn push_const(
     ensures { λ s. ⌜ Loads (now (records .entry)) nest (outs (now (out .entry)) (now (cs .entry))) st (outs (now (out .exit)) (now (cs .exit))) s
         (constOf code) kind low high ⌝ }
 {
-    if nest {
-        return st;
+    let at = st.at;
+    let count = st.count;
+    let mut n = at;
+    let mut m = count;
+    if writes(nest, going(st), at) {
+        m = put_named(records, out, cs, at, count, code, kind, low, high);
+        n = at + 1;
     }
-    if going(st) {
-        let at = st.at;
-        let mut s = st;
-        if at < LIMIT {
-            let n = st.count;
-            let h = last(kind, high);
-            let added = add_const(records, cs, n, kind, low, h);
-            let i = index(added);
-            put_const(out, at, code, i);
-            s.at = at + 1;
-            s.count = count(added);
-            return s;
-        }
-    }
-    st
+    let mut s = st;
+    s.at = n;
+    s.count = m;
+    s
 }
 
 pub fn push_load_const(

@@ -26,11 +26,11 @@ pub fn inc_count(n: usize) -> usize
 pub fn get_label(st: Run) -> Run
     ensures { λ s. ⌜ Step st s bump ⌝ }
 {
+    let mut n = st.labels;
     if going(st) {
-        let n = st.labels;
-        let mut s = st;
-        s.labels = inc(n);
-        return s;
+        n = inc(n);
     }
-    st
+    let mut s = st;
+    s.labels = n;
+    s
 }

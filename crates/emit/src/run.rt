@@ -5,13 +5,13 @@ use rules::Flow;
 pub const KEPT: usize = 128;
 
 pub struct Run {
+    // continue_stack, innermost last; a loop's break label is the one after its continue label
+    pub loops: [u32; 128],
+    pub depth: usize,
     // markers written so far in the current stream
     pub at: usize,
     // label_count
     pub labels: u32,
-    // continue_stack, innermost last; a loop's break label is the one after its continue label
-    pub loops: [u32; 128],
-    pub depth: usize,
     pub flow: Flow,
     pub errors: usize,
     // functions met
