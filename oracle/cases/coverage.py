@@ -5,8 +5,19 @@ import collections
 from model.shape import DETAILS
 from model.words import *
 
+from . import rust
 
 OUTCOMES = ["listing", "listing with errors", "refusal", "input"]
+PLACES_OF_13 = [("in Binary", IS), ("on a name", IS), ("on a member", AND), ("on a member", OR),
+                ("on a member", IS)]
+
+
+def place_of_13(records, at):
+    """What a 13 stands at, and its operator."""
+    if records[at] == BINARY:
+        return "in Binary", records[at + 1]
+    left = records[at + 6]
+    return "on a member" if records[8 * left + 1] else "on a name", records[at + 1]
 
 
 class Coverage:
@@ -20,11 +31,18 @@ class Coverage:
             self.count["refusal", refused.number] += 1
             if refused.number < 10:
                 return
+            if refused.number == 13:
+                self.count["operator", *place_of_13(words[7], 8 * refused.place)] += 1
         for r in range(0, len(words[7]), 8):
             kind, detail = words[7][r:r + 2]
             self.count["kind", kind] += 1
             if kind in DETAILS:
                 self.count["detail", kind, detail] += 1
+        short = rust.short_assignments(words)
+        for r in short:
+            self.count["short", words[7][8 * r + 1]] += 1
+        self.count["short trees"] += bool(short)
+        self.count["short listings"] += bool(short and answer)
         if answer is not None:
             self.count["listings"] += 1
             for stream in answer.streams:
@@ -75,6 +93,10 @@ class Coverage:
                                   ("error", "error", enumerate(ERRORS))]:
             yield f"{title}: " + ", ".join(f"{name} {count[key, n]}" for n, name in names)
         yield "refusal: " + ", ".join(f"{n}: {count['refusal', n]}" for n in range(1, 17))
+        yield "13: " + ", ".join(f"{OPERATORS[d]} {where} {count['operator', where, d]}"
+                                 for where, d in PLACES_OF_13)
+        yield (f"short assignments: And {count['short', AND]}, Or {count['short', OR]}, in "
+               f"{count['short trees']} trees, {count['short listings']} of them with a listing")
 
     def missing(self):
         """What no case has reached; PopJumpIfTrue can't be (reading 24), 2 is no matter of
@@ -88,4 +110,7 @@ class Coverage:
         out += [f"constant {name}" for n, name in enumerate(CONSTANTS) if not count["constant", n]]
         out += [f"error {name}" for n, name in enumerate(ERRORS) if not count["error", n]]
         out += [f"refusal {n}" for n in range(1, 17) if n != 2 and not count["refusal", n]]
+        out += [f"13 for {OPERATORS[d]} {where}" for where, d in PLACES_OF_13
+                if not count["operator", where, d]]
+        out += [f"short {OPERATORS[d]}" for d in (AND, OR) if not count["short", d]]
         return out

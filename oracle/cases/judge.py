@@ -37,9 +37,10 @@ class Case:
         check_counts(self.answer)
 
     def rust_can_judge(self):
-        """`input` and rows 1 to 9 are outside what the Rust can be asked."""
-        early = self.refused is not None and self.refused.number < 10
-        return self.line is None and not early and not rust.left_out(self.words)
+        """`input`, rows 1 to 9 and Job 1's assignments are outside what the Rust can be asked."""
+        if self.line is not None or self.refused is not None and self.refused.number < 10:
+            return False
+        return not rust.left_out(self.words) and not rust.short_assignments(self.words)
 
     def difference(self):
         """How the Rust departs from the model, or None."""

@@ -3,7 +3,10 @@
 import random
 
 from . import damage, shapes, trees
-from .build import breadth_first, preorder, scattered
+from .build import breadth_first, preorder, scattered, walk
+
+SHORT = 0.5     # of the trees: most of their AssignOps on plain names become And or Or
+SHORT_SHAPES = 0.03
 
 
 def large(rng):
@@ -52,10 +55,23 @@ def program(rng, sizes):
     return trees.make(rng, large(rng))
 
 
-def case(seed, i, sizes="wide", faults=0.15):
+def shortened(rng, made):
+    """Job 1's assignments, and now and then Is, by draws of their own: the other trees of a seed stay
+    as they were."""
+    draw = rng.random()
+    if draw < SHORT:
+        for node in walk(made.root):
+            if node.kind == 25 and node.children[0].detail == 0 and rng.random() < 0.7:
+                node.detail = rng.choice([5, 6] * 12 + [13])
+    return shapes.short(rng) if draw > 1 - SHORT_SHAPES else made
+
+
+def case(seed, i, sizes="wide", faults=0.15, short=True):
     """(words, whether they were damaged)"""
     rng = random.Random(f"{seed} {i}")
     made = program(rng, sizes)
+    if short:
+        made = shortened(random.Random(f"short {seed} {i}"), made)
     words = made.words(rng.choice([preorder, preorder, breadth_first, scattered]), rng)
     if rng.random() < faults:
         # Tables 4 and 6 lead to 10 to 12, which the Rust also meets.

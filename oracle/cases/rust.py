@@ -41,6 +41,14 @@ def left_out(words):
     return False
 
 
+def short_assignments(words):
+    """The records with `and=` or `or=` on a plain name. The Rust panics there, so a tree with one is
+    not put to it: 'judged by this text alone' (Job 1, reading 54)."""
+    rows = [words[7][at:at + 8] for at in range(0, len(words[7]), 8)]
+    return [r for r, row in enumerate(rows) if row[0] == 25 and row[1] in (5, 6)
+            and rows[row[6]][1] == 0]
+
+
 def panic_number(extra):
     """The refusal that a panic's place in codegen.rs speaks for, or None."""
     found = re.search(r"# at codegen\.rs:(\d+)", extra)

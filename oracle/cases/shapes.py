@@ -112,6 +112,35 @@ def skipped(random):
     return plain(function(*exprs, kind=2))
 
 
+def short(random):
+    """`and=` and `or=` on plain names: in each other, in loops and tests, cut short, captured."""
+    def update(right):
+        return Node(25, random.choice([5, 6]), children=[left(ident(random.randrange(2))), right])
+
+    wraps = [
+        update, update, update,
+        lambda node: Node(3, children=[node]),
+        lambda node: Node(10, random.choice([5, 6]), children=[ident(1), node]),
+        lambda node: block(node, update(null())),
+        lambda node: Node(16, children=[block(node, Node(19))]),
+        lambda node: Node(17, children=[node, block(update(Node(20)))]),
+        lambda node: Node(18, 0, 1, 0, [ident(1), node, block(null())]),
+        lambda node: Node(24, children=[left(ident(1), 0, node), null()]),
+        lambda node: Node(25, random.choice([0, 0, 5, 6, 13]),
+                          children=[left(ident(1), 4), node]),
+        lambda node: Node(13, children=[node, update(null())]),
+        lambda node: fn(function(node, kind=random.randrange(3))),
+    ]
+    exprs = []
+    for _ in range(random.choice([1, 2, 3])):
+        node = random.choice([null(), ident(1), Node(19, start=1, end=2), Node(20, start=3, end=4),
+                              Node(21, children=[null()], start=5, end=6)])
+        for _ in range(random.choice([1, 2, 3, 5, 8])):
+            node = random.choice(wraps)(node)
+        exprs.append(node)
+    return plain(function(*exprs, kind=random.choice([0, 2])))
+
+
 def few_open_loops(random):
     return open_loops(random, 12)
 

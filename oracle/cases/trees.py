@@ -13,7 +13,7 @@ class Profile:
         # How often Break, Continue and Return stand where they are errors.
         self.errors = random.choice([0, 0, 0, 0.03, 0.1, 0.4]) if errors is None else errors
         self.wrong_names = random.choice([0] * 8 + [0.02, 0.1]) if wrong is None else wrong
-        # How often 13, 14 and 15 are asked for.
+        # How often 13, 14 and 15 are asked for; And and Or on a plain name are Job 1's.
         self.wrong_forms = random.choice([0] * 8 + [0.1]) if wrong is None else wrong
         self.fill = self.records > 40 and random.random() < 0.7
         self.functions = functions

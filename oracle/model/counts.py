@@ -21,6 +21,13 @@ def pattern_depth(t, r):
     return below + (t.records[r].kind in (TABLE_PATTERN, LIST_PATTERN))
 
 
+def short_assignment(t, r):
+    """`and=` or `or=` on a plain name: an AssignOp that jumps and is not 13 (reading 54)."""
+    record = t.records[r]
+    return (record.kind == ASSIGN_OP and record.detail in (AND, OR)
+            and t.records[record.first].detail == 0)
+
+
 def label_count(t, r):
     """'Labels counted', over a function's own tree; a run with errors may take fewer
     (reading 16). A Case's own patterns count, not those inside them (reading 18)."""
@@ -29,6 +36,8 @@ def label_count(t, r):
     count = {MEMBER: 1, RETURN: 1, IF: 2, LOOP: 2, WHILE: 2, FOR: 3}.get(record.kind, 0)
     if record.kind == BINARY:
         count = int(record.detail in (AND, OR))
+    elif record.kind == ASSIGN_OP:
+        count = int(short_assignment(t, r))
     elif record.kind == CALL and HANDLER in kinds:
         count = 1 + kinds.count(HANDLER)
     elif record.kind == MATCH:

@@ -1,6 +1,8 @@
-"""The visitors: each writes the markers of `visit_expr`, in its order."""
+"""The visitors: each writes the markers of `visit_expr`, in its order, or what Job 1 of document
+02 says."""
 
 from .words import *
+from .counts import short_assignment
 from .state import Cut, State, constant_of
 
 
@@ -88,7 +90,7 @@ class Visitor(State):
         if record.detail in (AND, OR):
             label = self.label()
             self.visit_expr(left)
-            self.put("JumpIfFalseOrPop" if record.detail == AND else "JumpIfTrueOrPop", label)
+            self.put(jump_code(record.detail), label)
             self.visit_expr(right)
             self.place(label)
         else:
@@ -399,6 +401,9 @@ class Visitor(State):
 
     def assign_op(self, r, record, children):
         """Load and property, right side, operator, store (reading 23)."""
+        if short_assignment(self.t, r):
+            self.short_assign(record, children)
+            return
         left, right = children
         detail, parts = self.t.records[left].detail, self.t.children(left)
         member = detail - 1
@@ -426,6 +431,19 @@ class Visitor(State):
         self.store(parts[0])
         self.load_null()
 
+    def short_assign(self, record, children):
+        """`and=` and `or=` on a plain name, by Job 1's text: the label before the load, placed
+        before the store (reading 54)."""
+        left, right = children
+        ident = self.t.children(left)[0]
+        label = self.label()
+        self.load(ident)
+        self.put(jump_code(record.detail), label)
+        self.visit_expr(right)
+        self.place(label)
+        self.store(ident)
+        self.load_null()
+
     def assign_unpack(self, _r, _record, children):
         lefts = children[:-1]
         self.visit_expr(children[-1])
@@ -446,6 +464,11 @@ class Visitor(State):
         for left in reversed(lefts):
             self.visit_left(left)
         self.load_null()
+
+
+def jump_code(operator):
+    """The jump of And or Or, which leaves the left side where it decides."""
+    return "JumpIfFalseOrPop" if operator == AND else "JumpIfTrueOrPop"
 
 
 def member_code(verb, member):

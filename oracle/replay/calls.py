@@ -10,6 +10,10 @@ what the Rust does not give: refusals (1 to 9 stated by hand in hand.py and chil
 purpose of their own), the forecast, and each function's label count, which sample/make.py held against the
 Rust's when it stored the listing. Loop depth is the oracle's count. The words of every accepted case must
 be the model's too.
+
+Of `and=` and `or=` on plain names the Rust is not asked. The cases of short_texts.py are stated by hand,
+label counts too; those of the sample are the model's. 13 on other operators is stated by hand as well
+(refusal_texts.py).
 """
 
 import pathlib
@@ -23,7 +27,7 @@ from cases.build import Program, function, null
 from model import text
 from model.run import generate
 from model.words import CODE, CONSTANTS, ERRORS, FLOAT, INT, NONE, Refused
-from replay import children, hand
+from replay import children, hand, refusal_texts, short_texts
 from replay.make import lines
 
 TARGET = HERE.parent.parent / "crates" / "codegen_test"
@@ -98,13 +102,13 @@ def model_answer(words, room):
     return answer_of([len(answer.streams), len(answer.errors), answer.forecast()], outputs)
 
 
-def stored_answer(words, stored):
-    """The stored text, turned into the program's."""
+def stored_answer(words, stored, labels=None):
+    """The stored text, turned into the program's; label counts are the model's unless stated."""
     refusal = re.fullmatch(r"refusal place\n(\d+) (\d+)\n", stored)
     if refusal:
         return f"refused {refusal[1]} {refusal[2]}\n"
     model = generate(words)
-    outputs = words_of(stored, [stream.labels for stream in model.streams])
+    outputs = words_of(stored, labels or [stream.labels for stream in model.streams])
     return answer_of([len(outputs[4]) // 7, len(outputs[3]) // 3, model.forecast()], outputs)
 
 
@@ -120,6 +124,16 @@ def stored_cases():
         words = text.read(given.encode())
         room = [n + i % 4 for n in enough(words)]
         yield words, room, stored_answer(words, stored)
+
+
+def short_cases():
+    """`and=` and `or=` on plain names, and where 13 stands beside them."""
+    for given, answer, labels in short_texts.cases():
+        words = text.read(given.encode())
+        yield words, enough(words), stored_answer(words, answer, labels)
+    for number, place, given in refusal_texts.row_13():
+        words = text.read(given.encode())
+        yield words, enough(words), f"refused {number} {place}\n"
 
 
 def early_cases():
@@ -156,7 +170,8 @@ def space_cases():
 
 def main():
     tables, answers = [], []
-    for words, room, answer in [*stored_cases(), *early_cases(), *space_cases()]:
+    for words, room, answer in [*stored_cases(), *short_cases(), *early_cases(),
+                               *space_cases()]:
         model = model_answer(words, room)
         if answer != model:
             sys.exit(f"case {len(answers)}: stored\n{answer}the model says\n{model}")

@@ -2,11 +2,13 @@
 """Remakes crates/genlist_test/stdin and stdout, always the same: texts and genlist's answers.
 
 A line `====` stands between two texts and between two answers. In this order: cases A to J, nesting of
-128 and 129 levels, each error, every refusal that a text can reach, the texts for the reader, the
-stored sample, a text that is too long, and one without a line feed at its end.
+128 and 129 levels, each error, every refusal that a text can reach, `and=` and `or=` on plain names, the
+texts for the reader, the stored sample, a text that is too long, and one without a line feed at its end.
 
-Each listing is the Rust's (oracle/build.sh must have been run). Refusals and `input` are stated by
-hand, but for the refusals of the sample, where the Rust panics. All must be the model's too.
+Each listing is the Rust's (oracle/build.sh must have been run), but for `and=` and `or=` on plain names,
+of which the Rust is not asked: these are stated by hand, and in the sample they are the model's. Refusals
+and `input` are stated by hand, but for the refusals of the sample, where the Rust panics. All must be
+the model's too.
 """
 
 import pathlib
@@ -19,7 +21,7 @@ sys.path.insert(0, str(HERE.parent))
 from cases import rust
 from model import text
 from model.listing import answer_text
-from replay import refusal_texts, texts_cases
+from replay import refusal_texts, short_texts, texts_cases
 from replay.refusal_texts import nested
 from replay.texts_cases import LISTING
 
@@ -50,6 +52,11 @@ def refusals():
         yield given, f"refusal place\n{number} {place}\n"
 
 
+def short():
+    for given, answer, _ in short_texts.cases():
+        yield given, answer
+
+
 def reader():
     """The texts for the reader; a listing is the Rust's."""
     for given, answer in texts_cases.checked():
@@ -75,18 +82,20 @@ def cases():
     yield from worked()
     yield nested("128 levels", 128), RUST
     yield nested("129 levels", 129), "refusal place\n8 129\n"
-    for group in (errors, refusals, reader, sample, last):
+    for group in (errors, refusals, short, reader, sample, last):
         yield from group()
 
 
 def told_by_rust(given):
-    """The Rust's listings, of texts that are read and written again in the plain form."""
-    plain = [text.write(text.read(one.encode())) for one in given]
-    return dict(zip(given, rust.ask(plain, extra=False), strict=True))
+    """The Rust's listings, of texts that are read and written again in the plain form; none for Job 1's
+    assignments."""
+    words = {one: text.read(one.encode()) for one in given}
+    asked = {one: text.write(w) for one, w in words.items() if not rust.short_assignments(w)}
+    return dict(zip(asked, rust.ask(asked.values(), extra=False), strict=True))
 
 
 def checked():
-    """(text, answer): each the model's, and each listing the Rust's."""
+    """(text, answer, whether it is a listing of the Rust's): each the model's."""
     pairs = list(cases())
     models = [answer_text(given.encode()) for given, _ in pairs]
     listed = [given for (given, _), model in zip(pairs, models) if model.startswith(LISTING)]
@@ -95,16 +104,17 @@ def checked():
         answer = by_rust.get(given, model) if stated is RUST else stated
         if not answer == model == by_rust.get(given, model):
             sys.exit(f"{given.splitlines()[0]}: stated\n{answer}the model says\n{model}")
-        yield given, answer
+        yield given, answer, given in by_rust
 
 
 def main():
-    pairs = list(checked())
+    made = list(checked())
     TARGET.mkdir(exist_ok=True)
-    (TARGET / "stdin").write_text("====\n".join(given for given, _ in pairs), newline="")
-    (TARGET / "stdout").write_text("====\n".join(answer for _, answer in pairs))
-    listed = sum(answer.startswith(LISTING) for _, answer in pairs)
-    print(f"listings: {len(pairs)} texts, {listed} of them with the Rust's listing")
+    (TARGET / "stdin").write_text("====\n".join(given for given, _, _ in made), newline="")
+    (TARGET / "stdout").write_text("====\n".join(answer for _, answer, _ in made))
+    listed = sum(answer.startswith(LISTING) for _, answer, _ in made)
+    by_rust = sum(rusts for _, _, rusts in made)
+    print(f"listings: {len(made)} texts, {listed} with a listing, {by_rust} of these the Rust's")
 
 
 if __name__ == "__main__":

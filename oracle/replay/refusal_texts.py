@@ -172,13 +172,31 @@ def update(operator, at):
             "2 0 0 0 0 0 0 0", NULL)
 
 
+MEMBERS = ["Bracket", "Dot", "DoubleColon", "BracketMeta", "DotMeta", "DoubleColonMeta"]
+
+
+def member_update(operator, member, at):
+    """The same with a member on its left; its property is Null or an Ident, a Meta has none."""
+    first, last = f"25 {operator} 0 0 0 0 {at + 1} 0", "2 0 0 0 0 0 0 0"
+    if member > 2:
+        return first, f"34 {member + 1} 0 0 0 0 {at + 2} {at + 3}", last, NULL
+    owner = f"2 0 0 0 0 0 0 {at + 3}"
+    return first, f"34 {member + 1} 0 0 0 0 {at + 2} {at + 4}", owner, last if member else NULL, NULL
+
+
 def row_13():
     a = {"strings": ["61"], "symbols": ["0 0"], "references": ["0"], "functions": ["none 1"],
          "members": ["0"]}
     yield 13, 3, text("Is in Binary", "10 13 0 0 0 0 4 0", "1 0 0 0 0 0 0 5", NULL)
-    yield 13, 3, text("And in AssignOp", *update(5, 3), **a)
-    yield 13, 4, text("Or in AssignOp", "1 0 0 0 0 0 0 4", *update(6, 4), **a)
     yield 13, 3, text("Is in AssignOp", *update(13, 3), **a)
+    yield 13, 4, text("Is in AssignOp after a Null", "1 0 0 0 0 0 0 4", *update(13, 4), **a)
+    for operator, word in ((5, "And"), (6, "Or"), (13, "Is")):
+        for member, where in enumerate(MEMBERS):
+            yield 13, 3, text(f"{word} in AssignOp on a {where}", *member_update(operator, member, 3),
+                              **a)
+    yield 13, 4, text("Or on a Dot after a Null", "1 0 0 0 0 0 0 4", *member_update(6, 1, 4), **a)
+    yield 13, 3, text("And on a DotMeta, its right side `or=` on a name", "25 5 0 0 0 0 4 0",
+                      "34 5 0 0 0 0 5 6", "2 0 0 0 0 0 0 0", *update(6, 6), **a)
 
 
 def row_14():

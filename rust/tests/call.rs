@@ -30,6 +30,11 @@ fn with_symbol(mut tables: Tables) -> Tables {
     tables
 }
 
+/// The same, with the Local in the function's share.
+fn with_member(tables: Tables) -> Tables {
+    Tables { functions: vec![NONE, 1], members: vec![0], ..with_symbol(tables) }
+}
+
 #[test]
 fn case_a() {
     let listing = accepted(&frame(&[]));
@@ -98,9 +103,34 @@ fn refusals_by_number() {
     assert_eq!(refused(&with_symbol(frame(&store))), (12, 4));
     let is = [[10, 13, 0, 0, 0, 0, 4, 0], [1, 0, 0, 0, 0, 0, 0, 5], null];
     assert_eq!(refused(&frame(&is)), (13, 3));
+    let dotted = [[25, 6, 0, 0, 0, 0, 4, 0], [34, 5, 0, 0, 0, 0, 5, 6], ident, null];
+    assert_eq!(refused(&with_member(frame(&dotted))), (13, 3));
     let multi = [[27, 0, 1, 0, 0, 0, 4, 0], [34, 0, 0, 0, 0, 0, 5, 0], ident];
     assert_eq!(refused(&with_symbol(frame(&multi))), (14, 3));
     assert_eq!(refused(&with_symbol(frame(&[[22, 0, 0, 0, 0, 0, 0, 0]]))), (15, 3));
+}
+
+/// `a or= null`: a load, a jump to a label, the right side, the label, a store, Null.
+#[test]
+fn or_on_a_plain_name() {
+    let listing = accepted(&with_member(frame(&[
+        [25, 6, 0, 0, 0, 0, 4, 0],
+        [34, 0, 0, 0, 0, 0, 5, 6],
+        [2, 0, 0, 0, 0, 0, 0, 0],
+        [1, 0, 0, 0, 0, 0, 0, 0],
+    ])));
+    let codes = [
+        Code::LoadLocal,
+        Code::JumpIfTrueOrPop,
+        Code::LoadConst,
+        Code::Label,
+        Code::StoreLocal,
+        Code::LoadConst,
+        Code::Return,
+    ];
+    let markers = codes.map(|code| Marker { code, operand: 0 });
+    assert_eq!(listing.functions[0].markers, markers);
+    assert_eq!(listing.functions[0].labels, 1);
 }
 
 #[test]

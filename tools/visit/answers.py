@@ -14,7 +14,7 @@ HEAD=[
  ('Rattle.pool.specs.Value',['function','str','int','below','child']),
  ('Rattle.rules.specs.Marker',['Jump','PopJumpIfFalse','JumpPopIfNull','Pop','Copy','Swap','BuildTable','BuildList','GetItem','TypeCheck','Call','Return','LoadLocals','ImportGlob','CheckEffect','LoadConst']),
  ('Rattle.rules.specs.Step',['Expr','Callee','Tail','Target','Before','After','Step','say','width']),
- ('Rattle.rules.specs.Arms',['unary-code','binary-code','get-code','set-code','no-opcode','property','call-steps','arguments','handlers','is-tail']),
+ ('Rattle.rules.specs.Arms',['unary-code','binary-code','get-code','set-code','no-opcode','is-short','property','call-steps','arguments','handlers','is-tail']),
  ('Rattle.rules.specs.Run',['State','labels','flow','emit','exec','kept','bump','number-of','spot-at']),
  ('Rattle.rules.specs.Out',['code-number','forward-number']),
  ('Rattle.emit.specs.Sim',['lent','outs','cap','more','Sim']),('Rattle.emit.specs.Does',['nth','visit-at','own-stream','near','part','does','through','items']),
@@ -28,7 +28,7 @@ HEAD=[
  ('Rattle.plain.specs.Choice',['hopOf','callOf']),('Rattle.visit.specs.Runs',['unpacks','bodied','downs','hand-steps','chosen']),('Rattle.visit.specs.Arms',['later-steps','part-steps']),
  ('Rattle.plain.proofs.MarkLaws',['placed','jumped','backed','said','loaded','nulled']),
  ('Rattle.visit.proofs.FallLaws',['falls-to','falls-child','falls-rank','falls-some','falls-rank2','falls-or','falls-below','falls-along','falls-next','falls-past','linked-nth','child1','child2','along-next','Along','Linked','levelOr']),
- ('Rattle.visit.proofs.ArmLaws',['safed','propped','through-at','copied','chosen-at','registered-at','unpacked-at','downed','handed','next-of','visited','stored-at','loaded-at','by','absent','either-yes','either-no','member-run','method-run']),
+ ('Rattle.visit.proofs.ArmLaws',['safed','propped','hopped','through-at','copied','chosen-at','registered-at','unpacked-at','downed','handed','next-of','visited','stored-at','loaded-at','by','absent','either-yes','either-no','member-run','method-run']),
  ('Rattle.visit.proofs.GroupLaws',['to-later','to-parts','to-none','later-by','part-by','begin-two','begin-three','own-do','own-fn']),
  ('Rattle.visit.proofs.RunLaws',['part-still','through-none','through-turn','left-items','left-none','left-some','left-still','left-turn','unpacked-part','unpacks-turn','bodies-part','bodied-turn','down-part']),
  ('Rattle.visit.proofs.KindLaws',['property-name','left-none-by','before-none-by','target-plain','target-member','before-plain','before-member','before-meta','unpack-run','multi-yes','multi-no','callee-method','callee-plain','tail-visit','call-plain','call-hands','hand-ends','hand-goes','for-run','items-run']),
@@ -277,12 +277,18 @@ V['import']={'all-requires':f'(falls-to {N} {r} _ 13 7 t (@pre .0) (lit< tt) {LN
  'returns-2':(DE,sim(chain(im+[('h2',f'through-at {E} {nest} {f} z (@width .ensures ∙ ap (λ (x : ℕ). width (own-tree (forest {R} x))) {NP} ∙ sym (width-past {R} (word {R} {r} 2) (first {R} {r}))) {NP} (@all .ensures) h1'),('h3',say('Pop',0,'push-pop','h2'))],
    f'given ({IN} ∙ either-yes {RNF} u {r} _ _ _ _ (eq-eqb _ 2 (sym (@detail .ensures) ∙ @if2 .taken)) ∙ items-run {RNF} u {r} _) ({null("push-load-const","h3")})'))),
  'returns-3':(DE,sim(chain(im+[('h2',say('ImportGlob',0,'push-import-glob','h1'))],f'given ({IN} ∙ either-no {RNF} u {r} _ _ _ _ (ne-eqb _ 2 (λ e. @if2 .left (@detail .ensures ∙ e)))) ({null("push-load-const2","h2")})')))}
-NO=f'(ap no-opcode (sym (@detail .ensures)) ∙ sym (@no-opcode .ensures) ∙ @if1 .%s)'
+NO=f'(ap no-opcode (sym (@detail .ensures)) ∙ sym (@no-opcode .ensures) ∙ @if2 .%s)'
+SHORT=f'(ap₂ (λ (d x : ℕ). is-short d (own-tree (forest {R} x))) (sym (@detail .ensures)) (sym {E1}) ∙ sym (@is-short .ensures) ∙ @if1 .%s)'
+LONG=f'either-no {RNF} u {r} _ _ _ A {SHORT%"left"}'
 up=[('h1',visit(E1,'old','h','Before')),('h2',visit(E2,'expr','h1'))]
-V['update']={'old-requires':child(L1,8,8),'expr-requires':child(L2,8),
- 'returns':(DE,f'resim (λ u z A. either-yes {RNF} u {r} _ _ _ A {NO%"taken"})\n      ('+sim(chain(up,step('stop','h2')))+')'),
- 'returns-2':(DE,f'resim (λ u z A. either-no {RNF} u {r} _ _ _ A {NO%"left"})\n      ('+sim(chain(up+[('h3',f'said {r} (binary-code (word {R} {r} 1)) 0 (ap (λ (d : ℕ). code-number (binary-code d)) (@detail .ensures)) refl (@push-binary .ensures) h2'),
+V['update']={'lazy-requires':same(6,8),'old-requires':child(L1,8,8),'expr-requires':child(L2,8),
+ 'returns':f'resim (λ u z A. either-yes {RNF} u {r} _ _ _ A {SHORT%"taken"} ∙ hopped {RNF} u {r} (@detail .ensures) A) (@lazy .ensures)',
+ 'returns-2':(DE,f'resim (λ u z A. {LONG} ∙ either-yes {RNF} u {r} _ _ _ A {NO%"taken"})\n      ('+sim(chain(up,step('stop','h2')))+')'),
+ 'returns-3':(DE,f'resim (λ u z A. {LONG} ∙ either-no {RNF} u {r} _ _ _ A {NO%"left"})\n      ('+sim(chain(up+[('h3',f'said {r} (binary-code (word {R} {r} 1)) 0 (ap (λ (d : ℕ). code-number (binary-code d)) (@detail .ensures)) refl (@push-binary .ensures) h2'),
    ('h4',f'visited {E} {nest} {f} z After {E1} (@after .ensures .sim _ _) h3')],null('push-load-const','h4')))+')')}
+V['lazy']={'old-requires':child(L1,6,8),'expr-requires':child(L2,6),
+ 'returns':(DE,sim(chain([('l','h .labels'),('h1',step('get-label','h')),('h2',visit(E1,'old','h1','Before')),('h3',jump('(hopOf (@args .or))','l','push-hop','h2')),('h4',visit(E2,'expr','h3')),
+   ('h5',place('l','push-label','h4')),('h6',f'visited {E} {nest} {f} z After {E1} (@after .ensures .sim _ _) h5')],null('push-load-const','h6'))))}
 MA=f'matched {RNF} u {r} (@args .syms .now) (@args .refs .now) (@args .ents .now) (@args .spans .now) (@args .back .now) z (λ e. @if1 .left (@first .ensures ∙ e)) {E2} refl (@blocks2 .ensures) (@patterns .ensures) o₀ A h2'
 mc=[('l','h .labels'),('h1',step('get-label','h')),('h2',visit(E1,'expr','h1')),('k','h2 .labels'),('m',MA)]
 MW=f'(@width .ensures ∙ ap (λ (x : ℕ). width (own-tree (forest {R} x))) {E2})'
@@ -308,6 +314,6 @@ V['old']['sub-push-get']=V['old']['sub-push-get-2']=V['left']['sub-push-set']='l
 for m in ('bodies','lefts','all'): V[m]['add-i']='let g = @loop-test .taken in let b = @good in search needs'
 RANK={m:('level',8,11) for m in 'block func list unary binary member cond repeat glo assign call each ret import update cases catch'.split()}
 RANK.update({'expr':('levelOr',12,11),'arm':('level',11,11),'part':('level',10,11),'all':('levelOr',13,11),'inner':('level',6,10),'body':('level',5,10),
- 'short':('level',6,11),'prop':('level',6,11),'left':('levelOr',8,11),'old':('levelOr',8,11),'callee':('levelOr',13,11),'lefts':('level',9,11),'down':('level',9,11),'unpack':('level',10,11),'multi':('level',10,11),
+ 'short':('level',6,11),'lazy':('level',6,11),'prop':('level',6,11),'left':('levelOr',8,11),'old':('levelOr',8,11),'callee':('levelOr',13,11),'lefts':('level',9,11),'down':('level',9,11),'unpack':('level',10,11),'multi':('level',10,11),
  'hand':('level',6,11),'bodies':('level',5,11),'pick':('level',6,11)})
 V['expr']=group1(); V['arm']=group2(); V['part']=group3()

@@ -46,11 +46,13 @@ use Rattle.rules.specs.Step.{
 }
 use Rattle.rules.specs.Arms.{
   binary-steps,
+  assign-op-steps,
   assign-unpack-steps,
   assign-multi-steps,
   block-from,
   block-steps,
   no-opcode,
+  is-short,
   get-code,
   set-code,
   property,
@@ -351,6 +353,10 @@ unfolding small
 binaries-small w k =
     either (eqb (w .detail) 5) _ _ tt (either (eqb (w .detail) 6) _ _ tt (either (no-opcode (w .detail)) _ _ tt tt))
 
+assign-ops-small : (w : Words) (k : Nodes) → Small (assign-op-steps w k)
+unfolding small
+assign-ops-small w k = either (is-short (w .detail) k) _ _ (either (eqb (w .detail) 6) _ _ tt tt) (either (no-opcode (w .detail)) _ _ tt tt)
+
 imports-small : (w : Words) (k : Nodes) → Small (import-steps w k)
 unfolding small
 imports-small w k =
@@ -388,7 +394,7 @@ kinds-small =
     (λ w k h. tt) also (λ w k h. binaries-small w k) also (λ w k h. last (w .detail) (h .detail)) also (λ w k h. members-small w k) also call-small Call also
     (λ w k h. either (eqb (w .detail) 1) _ _ tt tt) also (λ w k h. matches-small w k) also (λ w k h. tt) also (λ w k h. tt) also (λ w k h. fors-small w k) also
     (λ w k h. tt) also (λ w k h. tt) also (λ w k h. either (is-tail k) _ _ tt tt) also (λ w k h. imports-small w k) also (λ w k h. tt) also (λ w k h. tt) also
-    (λ w k h. either (no-opcode (w .detail)) _ _ tt tt) also (λ w k h. unpacks-small w k) also (λ w k h. multis-small w k) also
+    (λ w k h. assign-ops-small w k) also (λ w k h. unpacks-small w k) also (λ w k h. multis-small w k) also
     (λ w k h. functions-small w k) also (λ w k h. stores-down-small (width k) [] tt) also handlers-small also (λ w k h. tt) also (λ w k h. tt) also no-more
 
 targets-small : (w : Words) (k : Nodes) → Small (target-steps w k)

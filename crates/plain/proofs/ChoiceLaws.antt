@@ -1,12 +1,12 @@
 -- The opcode that a number chooses: where the crate `opcode` finds none, the rules' default. Assumes nothing.
 use mathlib.Core.Path.{_≡_, refl, sym, ap, subst⁻¹, _∙_}
-use mathlib.Core.Bool.{Bool, true, false, _||_}
+use mathlib.Core.Bool.{Bool, true, false, _&&_, _||_}
 use mathlib.Core.List.{List, [], _∷_}
 use Prim.Native.Nat.{ℕ, zero, suc, _+_, _≤_}
 use native.Mathlib.Omega.{arith}
 use lib.ListN.{length, getD}
 use lib.Dec.{eqb, ltb}
-use borrow.Author.Tests.{eqb-true, ne-eqb, ltb-false}
+use borrow.Author.Tests.{eqb-true, eq-eqb, ne-eqb, ltb-false}
 use Rattle.opcode.specs.declared.opcode.Words.{Words}
 use Rattle.opcode.specs.declared.opcode.OpCode.the-variants as op
 use Rattle.opcode.specs.Words.{pairOf, opWords}
@@ -20,7 +20,9 @@ use Rattle.opcode.specs.Members.{memberKinds, foundMember, memberKind}
 use Rattle.opcode.specs.declared.member.MemberKind.the-variants as member-kind
 use Rattle.opcode.specs.declared.member.MemberLookup.{MemberLookup}
 use Rattle.opcode.specs.declared.member.MemberLookup.the-variants as member
-use Rattle.rules.specs.Arms.{unary-code, binary-code, no-opcode, get-code, set-code}
+use Rattle.tables.specs.Forest.{Nodes}
+use Rattle.pool.specs.Value.{child}
+use Rattle.rules.specs.Arms.{unary-code, binary-code, no-opcode, is-short, get-code, set-code}
 use Rattle.rules.specs.Marker.{Code, Not, Add, Sub, Mul, Div, Rem, Eq, Ne, Lt, Le, Gt, Ge, GetItem, GetAttr, GetMeta, SetItem, SetAttr, SetMeta}
 use Rattle.rules.specs.Out.{code-number}
 use Rattle.emit.specs.Sim.{Emits}
@@ -39,6 +41,20 @@ unary-not (suc (suc d)) ne = refl
 pub no-opcode-else : (d : ℕ) → (d ≡ 5 → ⊥) → (d ≡ 6 → ⊥) → (d ≡ 13 → ⊥) → no-opcode d ≡ false
 no-opcode-else d a b c =
     ap (λ (x : Bool). x || (eqb d 6 || eqb d 13)) (ne-eqb d 5 a) ∙ ap (λ (x : Bool). x || eqb d 13) (ne-eqb d 6 b) ∙ ne-eqb d 13 c
+
+-- `and=` and `or=`, x being the Left's detail
+module _ (d x : ℕ) (k : Nodes) (e : x ≡ child k 0 .detail) where
+  pub short-not : (x ≡ 0 → ⊥) → false ≡ is-short d k
+  short-not ne = sym (ap (λ (b : Bool). b && (eqb d 5 || eqb d 6)) (ne-eqb (child k 0 .detail) 0 (λ z. ne (e ∙ z))))
+
+  plain-left : x ≡ 0 → is-short d k ≡ eqb d 5 || eqb d 6
+  plain-left z = ap (λ (b : Bool). b && (eqb d 5 || eqb d 6)) (eq-eqb (child k 0 .detail) 0 (sym e ∙ z))
+
+  pub short-and : x ≡ 0 → d ≡ 5 → true ≡ is-short d k
+  short-and z q = sym (plain-left z ∙ ap (λ (b : Bool). b || eqb d 6) (eq-eqb d 5 q))
+
+  pub short-or : x ≡ 0 → (d ≡ 5 → ⊥) → eqb d 6 ≡ is-short d k
+  short-or z q = sym (plain-left z ∙ ap (λ (b : Bool). b || eqb d 6) (ne-eqb d 5 q))
 
 bin-one : BinOpLookup → ℕ
 bin-one (looked-bin.Found o) = 1

@@ -9,7 +9,7 @@ use lib.Dec.{eqb, ltb}
 use borrow.Author.Tests.{eq-eqb, ne-eqb, ltb-true, ltb-false}
 use Rattle.tables.specs.Record.{Words, words, word, size}
 use Rattle.tables.specs.Forest.{none, tree, first, next, forest, children, own-tree}
-use Rattle.pool.specs.Value.{plain, lit, effect-at, child as words-at}
+use Rattle.pool.specs.Value.{zeros, plain, lit, effect-at, child as words-at}
 use Rattle.pool.specs.Consts.{const-of, made, words-of}
 use Rattle.pool.specs.declared.consts.ConstWords.{ConstWords}
 use Rattle.pool.proofs.EffectLaws.{words-none, words-some}
@@ -50,11 +50,12 @@ plain-brought recs r k p q p′ ne e = ap (λ (b : Bool). cond b (record { value
     (λ (x : ℕ). made (plain k x q)) e
 
 module _ (recs : List ℕ) where
-  pub name-absent : (c : ℕ) → c ≡ 0 → 0 ≡ words-at (own-tree (forest recs c)) 0 .q
-  name-absent c e = sym (ap (λ (w : Words). w .q) (words-none recs c e))
+  -- a word g of the record c, which may be absent
+  pub field-absent : (g : Words → ℕ) (c : ℕ) → c ≡ 0 → g zeros ≡ g (words-at (own-tree (forest recs c)) 0)
+  field-absent g c e = sym (ap g (words-none recs c e))
 
-  pub name-present : (c x : ℕ) → (c ≡ 0 → ⊥) → x ≡ word recs c 3 → x ≡ words-at (own-tree (forest recs c)) 0 .q
-  name-present c x ne e = e ∙ sym (ap (λ (w : Words). w .q) (words-some recs c ne))
+  pub field-present : (g : Words → ℕ) (c x : ℕ) → (c ≡ 0 → ⊥) → x ≡ g (words recs c) → x ≡ g (words-at (own-tree (forest recs c)) 0)
+  field-present g c x ne e = e ∙ sym (ap g (words-some recs c ne))
 
   pub child-absent : (c : ℕ) → c ≡ 0 → 0 ≡ child recs c 0
   child-absent zero e = refl

@@ -1,4 +1,5 @@
 // Markers chosen by a number of the record: operators, members, And and Or, a Call that is returned.
+use crate::count::left_detail;
 use emit::code::push_op;
 use emit::op;
 use emit::op::push_jump_if_false_or_pop;
@@ -17,7 +18,8 @@ use opcode::operator::bin_op;
 use opcode::operator::from_bin_op;
 ghost use mathlib.Core.Path.{_≡_};
 ghost use Rattle.opcode.specs.Words.{pairOf, opWords};
-ghost use Rattle.rules.specs.Arms.{unary-code, binary-code, no-opcode, get-code, set-code};
+ghost use Rattle.tables.specs.Forest.{forest, own-tree};
+ghost use Rattle.rules.specs.Arms.{unary-code, binary-code, no-opcode, is-short, get-code, set-code};
 ghost use Rattle.rules.specs.Out.{code-number, forward-number};
 ghost use Rattle.emit.specs.Sim.{Emits};
 ghost use Rattle.plain.specs.Choice.{hopOf, callOf};
@@ -46,6 +48,20 @@ pub fn no_opcode(d: u32) -> bool
         return true;
     }
     false
+}
+
+// Whether the operator d with the Left c is `and=` or `or=` on a plain name.
+pub fn is_short(recs: &[u32], d: u32, c: usize) -> bool
+    ensures { λ b. ⌜ b ≡ is-short d (own-tree (forest (now (recs .entry)) c)) ⌝ }
+{
+    let left = left_detail(recs, c);
+    if left != 0 {
+        return false;
+    }
+    if d == 5 {
+        return true;
+    }
+    d == 6
 }
 
 // The operator's opcode; Add stands for those that have none.

@@ -137,6 +137,13 @@ pub fn first_child(recs: &[u32], c: usize) -> usize
     if c == 0 { 0 } else { first(recs, c) }
 }
 
+// The detail of the Left c, 0 where it is absent.
+pub fn left_detail(recs: &[u32], c: usize) -> u32
+    ensures { λ x. ⌜ x ≡ wordsAt (own-tree (forest (now (recs .entry)) c)) 0 .detail ⌝ }
+{
+    if c == 0 { 0 } else { detail(recs, c) }
+}
+
 // The name string of the Ident c, 0 where it is absent.
 pub fn name_of(recs: &[u32], c: usize) -> u32
     ensures { λ x. ⌜ x ≡ wordsAt (own-tree (forest (now (recs .entry)) c)) 0 .q ⌝ }

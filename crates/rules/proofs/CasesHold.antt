@@ -1,4 +1,5 @@
--- The worked cases A to J hold, all by one computed test. Assumes nothing.
+-- The worked cases A to J hold, all by one computed test, and so do the cases of document 02. Assumes nothing.
+use mathlib.Core.Path.{_≡_, refl}
 use mathlib.Core.Bool.{Bool, true, false, _&&_}
 use mathlib.Core.List.{List, [], _∷_}
 use Prim.Native.Nat.{ℕ}
@@ -25,6 +26,7 @@ use Rattle.rules.specs.Out.{
   outcome,
 }
 use Rattle.rules.specs.Cases.{Case, cases, empty}
+use Rattle.rules.specs.RequestCases.{Request, requests}
 
 abbrev gives : Case → Outcome → Bool
 gives c (listed o) =
@@ -38,3 +40,11 @@ all-given (c ∷ cs) = gives c (outcome empty (c .records)) && all-given cs
 pub cases-hold : T (all-given cases)
 unfolding guarded first next grow forest find seen intern share-start index-of with-symbol with-symbols names-upto names load store steps emit bump halt begin finish outward barred kept nested exec stream run consts marker-words const-words plain-names upvalue-words error-words loop-depth stream-of each-function outcome
 cases-hold = tt
+
+abbrev AllCome : List Request → Type 0
+AllCome [] = Unit {0}
+AllCome (c ∷ cs) = (outcome (c .tables) (c .records) ≡ c .outcome) × AllCome cs
+
+pub requests-hold : AllCome requests
+unfolding guarded first next grow forest find seen intern share-start index-of with-symbol with-symbols names-upto names load store steps emit bump halt begin finish outward barred kept nested exec stream run consts marker-words const-words plain-names upvalue-words error-words loop-depth stream-of each-function outcome
+requests-hold = (refl, (refl, (refl, (refl, (refl, tt)))))

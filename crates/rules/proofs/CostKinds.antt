@@ -55,6 +55,7 @@ use Rattle.rules.specs.Arms.{
   block-steps,
   stream-steps,
   no-opcode,
+  is-short,
   binary-steps,
   property,
   get-code,
@@ -318,7 +319,8 @@ module _ {R : Rates} {b : Words → ℕ} {g : ℕ} (A : Afford R b g) where
     assign-op-paid w k e t h =
         let f = A .fixed w in
         let z = left-children A ks body k h in
-        either (no-opcode (w .detail)) _ _ _ _ (omega arith) (omega arith)
+        either (is-short (w .detail) (own-tree k)) _ _ _ _ (either (eqb (w .detail) 6) _ _ _ _ (omega arith) (omega arith))
+        (either (no-opcode (w .detail)) _ _ _ _ (omega arith) (omega arith))
 
     unpack-paid : Paid 26 assign-unpack-steps
     unfolding weigh

@@ -42,6 +42,7 @@ use Rattle.rules.specs.Arms.{
   block-from,
   fn-steps,
   no-opcode,
+  is-short,
   property,
   safe-jump,
   get-code,
@@ -252,6 +253,11 @@ module _ (t : Semantic) (fn : Words) (r : ℕ) (w₀ : Words) (f : Forest) (ks :
         branch (λ b. T (fits (cond b (one Ident ∷ one Function ∷ []) (one Function ∷ [])) (node-words N))) (eqb (w .detail) 1) _ _ (0 + all) u
         (λ u. omega (arith, named Function tt u)) (λ u. omega (arith, single Function tt u))
 
+    -- a label where b
+    counted-if : (b : Bool) (x y : List Step) → count x ≡ 1 + all → count y ≡ 0 + all → count (cond b x y) ≡ cond b 1 0 + all
+    counted-if true x y p q = p
+    counted-if false x y p q = q
+
     short-count : (x y : Bool) (a b c : List Step) → count a ≡ 1 + all → count b ≡ 1 + all → count c ≡ 0 + all → count (cond x a (cond y b c)) ≡ cond (x || y) 1 0 + all
     short-count true y a b c p q z = p
     short-count false true a b c p q z = q
@@ -428,11 +434,13 @@ module _ (t : Semantic) (fn : Words) (r : ℕ) (w₀ : Words) (f : Forest) (ks :
         let g = fits-two Left expression N u in
         omega (arith, all-of 2 (g .wide), h .visits a 0 (q (kind-at N 0) (g .is0)), seen expression tt 1 (g .is1))
 
-    pub assign-op-count : (w : Words) → T (fits (one Left ∷ one expression ∷ []) (node-words N)) → count (assign-op-steps w N) ≡ 0 + all
+    pub assign-op-count : (w : Words) → T (fits (one Left ∷ one expression ∷ []) (node-words N)) → count (assign-op-steps w N) ≡ cond (is-short (w .detail) N) 1 0 + all
     unfolding seg-count
     assign-op-count w u =
         let e = assign-count u Before (λ n v. v) in
-        either (no-opcode (w .detail)) _ _ (0 + all) (omega (arith, e)) (omega (arith, e, h .afters 0))
+        counted-if (is-short (w .detail) N) _ _
+        (either (eqb (w .detail) 6) _ _ (1 + all) (omega (arith, e, h .afters 0)) (omega (arith, e, h .afters 0)))
+        (either (no-opcode (w .detail)) _ _ (0 + all) (omega (arith, e)) (omega (arith, e, h .afters 0)))
 
     pub unpack-count : (w : Words) → T (fits (times (w .p) Left ∷ one expression ∷ []) (node-words N)) → count (assign-unpack-steps w N) ≡ 0 + all
     unfolding seg-count

@@ -93,6 +93,7 @@ use Rattle.rules.specs.Step.{
 use Rattle.rules.specs.Arms.{
   lit-steps,
   binary-steps,
+  assign-op-steps,
   assign-unpack-steps,
   assign-multi-steps,
   block-from,
@@ -100,6 +101,7 @@ use Rattle.rules.specs.Arms.{
   unary-code,
   binary-code,
   no-opcode,
+  is-short,
   get-code,
   set-code,
   property,
@@ -456,6 +458,12 @@ unfolding pure
 binaries-pure w k =
     either (eqb (w .detail) 5) _ _ tt (either (eqb (w .detail) 6) _ _ tt (either (no-opcode (w .detail)) _ _ tt (coded (binary-code (w .detail)) (binary-pure (w .detail)))))
 
+assign-ops-pure : (w : Words) (k : Nodes) → Pure (assign-op-steps w k)
+unfolding pure
+assign-ops-pure w k =
+    either (is-short (w .detail) k) _ _ (either (eqb (w .detail) 6) _ _ tt tt)
+    (either (no-opcode (w .detail)) _ _ tt (coded (binary-code (w .detail)) (binary-pure (w .detail))))
+
 imports-pure : (w : Words) (k : Nodes) → Pure (import-steps w k)
 unfolding pure
 imports-pure w k =
@@ -478,8 +486,7 @@ kinds-pure =
     (λ h w k. coded (unary-code (w .detail)) (unary-pure (w .detail))) also (λ h. binaries-pure) also (λ h w k. tt) also (λ h. members-pure) also (λ h. call-pure Call tt) also
     (λ h w k. either (eqb (w .detail) 1) _ _ tt tt) also (λ h. matches-pure) also (λ h w k. tt) also (λ h w k. tt) also (λ h. fors-pure) also (λ h w k. tt) also
     (λ h w k. tt) also (λ h w k. either (is-tail k) _ _ tt tt) also (λ h. imports-pure) also (λ h w k. tt) also (λ h w k. tt) also
-    (λ h w k. either (no-opcode (w .detail)) _ _ tt (coded (binary-code (w .detail)) (binary-pure (w .detail)))) also
-    (λ h. unpacks-pure) also (λ h. multis-pure) also (λ h w k. absurd h) also
+    (λ h. assign-ops-pure) also (λ h. unpacks-pure) also (λ h. multis-pure) also (λ h w k. absurd h) also
     (λ h w k. stores-down-pure (width k) [] tt) also (λ h w k. tt) also (λ h w k. tt) also (λ h w k. tt) also no-more
 
 targets-pure : (w : Words) (k : Nodes) → Pure (target-steps w k)

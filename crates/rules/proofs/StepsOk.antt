@@ -50,6 +50,7 @@ use Rattle.rules.specs.Arms.{
   block-from,
   block-steps,
   no-opcode,
+  is-short,
   property,
   safe-jump,
   is-method,
@@ -66,6 +67,7 @@ use Rattle.rules.specs.Arms.{
   is-tail,
   simple-import,
   import-steps,
+  assign-op-steps,
   assign-unpack-steps,
   assign-multi-steps,
   binary-steps,
@@ -165,6 +167,10 @@ binaries-ok : (w : Words) (k : Nodes) → Pass false (binary-steps w k)
 unfolding ok
 binaries-ok w k = either (eqb (w .detail) 5) _ _ tt (either (eqb (w .detail) 6) _ _ tt (either (no-opcode (w .detail)) _ _ tt tt))
 
+assign-ops-ok : (w : Words) (k : Nodes) → Pass false (assign-op-steps w k)
+unfolding ok
+assign-ops-ok w k = either (is-short (w .detail) k) _ _ (either (eqb (w .detail) 6) _ _ tt tt) (either (no-opcode (w .detail)) _ _ tt tt)
+
 -- each kind against its loop flag
 loop-kind : ℕ → Bool
 loop-kind n = leb 16 n && leb n 18
@@ -203,7 +209,7 @@ kinds-ok =
     all-ok BuildTable (λ k. width k / 2) also all-ok BuildList width also
     (λ w k. tt) also binaries-ok also (λ w k. tt) also members-ok also call-ok Call also (λ w k. either (eqb (w .detail) 1) _ _ tt tt) also matches-ok also
     (λ w k. tt) also (λ w k. tt) also fors-ok also (λ w k. tt) also (λ w k. tt) also (λ w k. either (is-tail k) _ _ tt tt) also imports-ok also (λ w k. tt) also
-    (λ w k. tt) also (λ w k. either (no-opcode (w .detail)) _ _ tt tt) also unpacks-ok also multis-ok also (λ w k. either (is-do w) _ _ tt tt) also
+    (λ w k. tt) also assign-ops-ok also unpacks-ok also multis-ok also (λ w k. either (is-do w) _ _ tt tt) also
     (λ w k. stores-down-ok 0 [] [] (width k) [] (λ free. tt) []) also (λ w k. tt) also (λ w k. tt) also (λ w k. tt) also no-more
 
 -- a Left's two forms

@@ -291,11 +291,21 @@ glo-assign-steps w k = expr 1 ∷ seek Set (0 ∷ []) ∷ null ∷ []
 abbrev pub assign-steps : Words → Nodes → List Step
 assign-steps w k = expr 1 ∷ visit pass Target 0 ∷ null ∷ []
 
--- ExprKind::AssignOp
+-- `and=` and `or=` "with an Ident on the left" (document 02, job 1): 0 is a Left's detail for an Ident
+abbrev pub is-short : ℕ → Nodes → Bool
+is-short d k = eqb (child k 0 .detail) 0 && (eqb d 5 || eqb d 6)
+
+-- "load it, emit JumpIfFalseOrPop (for And) or JumpIfTrueOrPop (for Or) to a label taken before the load, visit the right side, place the label, store, and load Null"
+abbrev pub short-assign-steps : Forward → List Step
+short-assign-steps h = take ∷ visit pass Before 0 ∷ jump h 0 ∷ expr 1 ∷ place 0 ∷ visit pass After 0 ∷ null ∷ []
+
+-- ExprKind::AssignOp; "Member lefts and Is are still number 13"
 abbrev pub assign-op-steps : Words → Nodes → List Step
 assign-op-steps w k =
-    cond (no-opcode (w .detail)) (visit pass Before 0 ∷ expr 1 ∷ stop Operator ∷ [])
-    (visit pass Before 0 ∷ expr 1 ∷ say (binary-code (w .detail)) 0 ∷ visit pass After 0 ∷ null ∷ [])
+    cond (is-short (w .detail) k)
+    (cond (eqb (w .detail) 6) (short-assign-steps JumpIfTrueOrPop) (short-assign-steps JumpIfFalseOrPop))
+    (cond (no-opcode (w .detail)) (visit pass Before 0 ∷ expr 1 ∷ stop Operator ∷ [])
+    (visit pass Before 0 ∷ expr 1 ∷ say (binary-code (w .detail)) 0 ∷ visit pass After 0 ∷ null ∷ []))
 
 -- ExprKind::AssignUnpack: "p Lefts, expr"
 abbrev pub unpacked : ℕ → ℕ → List Step → List Step

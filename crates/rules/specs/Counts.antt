@@ -7,6 +7,7 @@ use lib.Dec.{eqb}
 use Rattle.tables.specs.Record.{Words, is-kind, is-pattern}
 use Rattle.tables.specs.Forest.{Nodes, bare, node}
 use Rattle.tables.specs.Details.{of-kind, row}
+use Rattle.rules.specs.Arms.{is-short}
 use Rattle.rules.specs.Patterns.{is-nested}
 
 -- how many of some nodes are Handlers
@@ -34,12 +35,12 @@ abbrev pub case-sum : Nodes → ℕ
 case-sum bare = 0
 case-sum (node w k s) = cond (is-kind 33 w) (suc (pattern-sum k)) 0 + case-sum s
 
--- the labels of one record
+-- the labels of one record; document 02, job 1: "Such an AssignOp adds one to the counted labels"
 unfoldable pub own-labels : Words → Nodes → ℕ
 own-labels w k =
     of-kind (w .kind)
     (row 10 (cond (eqb (w .detail) 5 || eqb (w .detail) 6) 1 0) ∷ row 12 1 ∷ row 13 (call-labels (handler-count k)) ∷ row 14 2 ∷ row 15 (suc (case-sum k)) ∷ row 16 2 ∷ row 17 2
-    ∷ row 18 3 ∷ row 21 1 ∷ []) 0
+    ∷ row 18 3 ∷ row 21 1 ∷ row 25 (cond (is-short (w .detail) k) 1 0) ∷ []) 0
 
 -- and of all records of a function's own tree
 unfoldable pub labels-counted : Nodes → ℕ

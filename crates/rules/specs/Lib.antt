@@ -10,3 +10,4 @@ pub mod Counts
 pub mod MarkerCount
 pub mod Demand
 pub mod Cases
+pub mod RequestCases

@@ -10,10 +10,10 @@ use Rattle.tables.specs.Record.{Words, word, words}
 use Rattle.tables.specs.Forest.{Nodes, first, next, forest, children, own-tree, none, tree}
 use Rattle.pool.specs.Value.{str, child}
 use Rattle.pool.specs.Names.{Semantic}
-use Rattle.rules.specs.Marker.{JumpPopIfNull, LoadConst, Copy, Swap, Label, To, Do, mark}
+use Rattle.rules.specs.Marker.{JumpIfTrueOrPop, JumpIfFalseOrPop, JumpPopIfNull, LoadConst, Copy, Swap, Label, To, Do, mark}
 use Rattle.rules.specs.Step.{Role, Expr, Get, Set, Step, say, put, place, jump, expr, width}
 use Rattle.rules.specs.Kinds.{Kind, kinds, steps-of, steps}
-use Rattle.rules.specs.Arms.{property, get-code, safe-jump, member-steps, method-steps}
+use Rattle.rules.specs.Arms.{property, get-code, safe-jump, member-steps, method-steps, short-assign-steps}
 use Rattle.rules.specs.Run.{State, Spot, here, nowhere, number-of, spot-at, look, sought, labels, bump, emit, exec}
 use Rattle.emit.specs.Sim.{cap, Lent, Scoped, Outs, outs, Rep, Sim, Seeks}
 use Rattle.emit.specs.Access.{loaded, stored}
@@ -23,6 +23,7 @@ use Rattle.emit.proofs.Basics.{on-true, on-false}
 use Rattle.emit.proofs.StateLaws.{given}
 use Rattle.emit.proofs.NameLaws.{load-seeks, store-seeks}
 use Rattle.emit.proofs.VisitLaws.{spotted, spot-below, visit-none, visit-does}
+use Rattle.plain.specs.Choice.{hopOf}
 use Rattle.plain.specs.Tail.{Safe, safe-run}
 use Rattle.plain.specs.Leaves.{Loading}
 use Rattle.plain.specs.Parts.{repeated, Copies, registering}
@@ -116,6 +117,18 @@ module _ (recs : List ℕ) (nest : Bool) (f : ℕ) (t : Semantic) where
 
     pub either-no : b ≡ false → does recs nest t f r (cond b x y) A ≡ does recs nest t f r y A
     either-no e = ap (λ (z : List Step). does recs nest t f r z A) (on-false b x y e)
+
+  -- the jump of `or=` and of `and=`, the operator being d
+  pub hopped : (r : ℕ) {d d′ : ℕ} → d′ ≡ d → (A : State)
+      → does recs nest t f r (cond (eqb d 6) (short-assign-steps JumpIfTrueOrPop) (short-assign-steps JumpIfFalseOrPop)) A
+      ≡ does recs nest t f r (short-assign-steps (hopOf (eqb d′ 6))) A
+  hopped r {d} {d′} e A = by-hop (eqb d 6) ∙ ap (λ (x : ℕ). does recs nest t f r (short-assign-steps (hopOf (eqb x 6))) A) (sym e)
+    where
+      by-hop : (b : Bool)
+          → does recs nest t f r (cond b (short-assign-steps JumpIfTrueOrPop) (short-assign-steps JumpIfFalseOrPop)) A
+          ≡ does recs nest t f r (short-assign-steps (hopOf b)) A
+      by-hop true = refl
+      by-hop false = refl
 
   module _ (r : ℕ) where
     abbrev W : Words

@@ -38,6 +38,7 @@ use opcode::opcode::CodeMarker;
 use opcode::opcode::OpCode;
 use pattern::blocks::blocks;
 use pattern::visit::patterns;
+use plain::choice::is_short;
 use plain::choice::no_opcode;
 use plain::choice::push_binary;
 use plain::choice::push_calling;
@@ -87,7 +88,7 @@ ghost use Rattle.tables.specs.Forest.{first as firstOf, children, own-tree};
 ghost use Rattle.rules.specs.Step.{Expr, Callee, Target, Before};
 ghost use Rattle.rules.specs.Arms.{block-steps, fn-steps, binary-steps, short-steps, member-steps, property, call-steps, handler-steps, if-steps};
 ghost use Rattle.rules.specs.Arms.{for-steps, return-steps, import-steps, glo-assign-steps, assign-steps, assign-op-steps, assign-unpack-steps};
-ghost use Rattle.rules.specs.Arms.{assign-multi-steps};
+ghost use Rattle.rules.specs.Arms.{assign-multi-steps, short-assign-steps};
 ghost use Rattle.rules.specs.Patterns.{match-steps};
 ghost use Rattle.rules.specs.Run.{nested};
 ghost use Rattle.emit.specs.Sim.{lent, outs, Sim};
@@ -1220,6 +1221,23 @@ fn update(
 {
     let d = detail(recs, r);
     let a = first(recs, r);
+    if is_short(recs, d, a) {
+        return lazy(
+            nest,
+            recs,
+            syms,
+            refs,
+            ents,
+            spans,
+            back,
+            out,
+            cs,
+            st,
+            f,
+            r,
+            d == 6,
+        );
+    }
     let b = next(recs, a);
     let s1 = old(nest, recs, syms, refs, ents, spans, back, out, cs, st, f, a);
     let s2 = expr(nest, recs, syms, refs, ents, spans, back, out, cs, s1, f, b);
@@ -1229,6 +1247,38 @@ fn update(
     let s3 = push_binary(nest, out, s2, d);
     let s4 = after(nest, recs, syms, refs, ents, spans, out, s3, f, a);
     push_load_const(nest, recs, out, cs, s4, 0, 0, 0)
+}
+
+// `and=` and `or=` on a plain name, where the Rust panics (document 02, job 1): as `short`, with the Left loaded before and stored after.
+fn lazy(
+    nest: bool,
+    recs: &[u32],
+    syms: &[u32],
+    refs: &[u32],
+    ents: &[u32],
+    spans: &[u32],
+    back: &[u32],
+    out: &mut [u32],
+    cs: &mut [u32],
+    st: Run,
+    f: usize,
+    r: usize,
+    or: bool,
+) -> Run
+    ensures { λ s. ⌜ Sim (lent (now (recs .entry)) (now (syms .entry)) (now (refs .entry)) (now (ents .entry)) (now (spans .entry)) (now (back .entry)))
+        nest (outs (now (out .entry)) (now (cs .entry))) st (outs (now (out .exit)) (now (cs .exit))) s
+        (λ t. does (now (recs .entry)) nest t f r (short-assign-steps (hopOf or))) ⌝ }
+{
+    let a = first(recs, r);
+    let b = next(recs, a);
+    let end = st.labels;
+    let s1 = get_label(st);
+    let s2 = old(nest, recs, syms, refs, ents, spans, back, out, cs, s1, f, a);
+    let s3 = push_hop(nest, out, s2, or, LabelId(end));
+    let s4 = expr(nest, recs, syms, refs, ents, spans, back, out, cs, s3, f, b);
+    let s5 = push_label(nest, out, s4, LabelId(end));
+    let s6 = after(nest, recs, syms, refs, ents, spans, out, s5, f, a);
+    push_load_const(nest, recs, out, cs, s6, 0, 0, 0)
 }
 
 // An AssignOp's Left before the right side: its old value is loaded.

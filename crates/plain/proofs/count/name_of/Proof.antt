@@ -1,4 +1,5 @@
-use Rattle.plain.proofs.LeafLaws.{name-absent, name-present}
+use Rattle.tables.specs.Record.{Words}
+use Rattle.plain.proofs.LeafLaws.{field-absent, field-present}
 use Rattle.plain.proofs.count.name_of.Statement.{statement}
 use Rattle.plain.proofs.count.name_of.Tie as tie
 
@@ -8,13 +9,13 @@ q-requires c κs = tt
 returns : tie.Need-returns
 returns c =
     let c2 = c .before .before in
-    name-absent (c2 .args .recs .now) (c2 .args .c) (c .if1 .taken)
+    field-absent (c2 .args .recs .now) (λ (w : Words). w .q) (c2 .args .c) (c .if1 .taken)
 
 returns-2 : tie.Need-returns-2
 returns-2 c =
     let c1 = c .before in
     let c3 = c1 .before .before in
-    name-present (c3 .args .recs .now) (c3 .args .c) _ (c1 .if1 .left) (c .q .ensures)
+    field-present (c3 .args .recs .now) (λ (w : Words). w .q) (c3 .args .c) _ (c1 .if1 .left) (c .q .ensures)
 
 pub name-of-spec : {M : Type 1} → statement M
 name-of-spec = tie.close (tie.spec q-requires returns returns-2)
