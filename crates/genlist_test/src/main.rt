@@ -1,13 +1,17 @@
 // Replays texts through genlist's work, one after another between lines `====`: prints the answer to each, with the same line between.
 use libc::STDIN_FILENO;
 use libc::STDOUT_FILENO;
-use lister::list::list;
+use lister::list::list_all;
 use lister::part::front_bytes;
 
+fn write(out: &[u8; 1048576], printed: usize) {
+    io::write_all(STDOUT_FILENO, front_bytes(out, printed));
+}
+
 fn show(text: &[u8]) {
-    let mut out = [0u8; 262144];
-    let printed = list(text, &mut out);
-    io::write_all(STDOUT_FILENO, front_bytes(&out, printed));
+    let mut out = [0u8; 1048576];
+    let printed = list_all(text, &mut out);
+    write(&out, printed);
 }
 
 fn put_cut() {

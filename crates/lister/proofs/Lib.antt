@@ -1,3 +1,4 @@
 pub mod FeedsLaws
 pub mod GenlistLaws
+pub mod FitsLaws
 pub mod WholeLaws

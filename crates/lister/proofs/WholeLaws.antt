@@ -1,15 +1,16 @@
--- A text that leaves room in its buffer was written whole. Assumes nothing.
-use mathlib.Core.Bool.{Bool, true, false, cond}
+-- A text that its buffer has room for is written whole. Assumes nothing.
+use mathlib.Core.Bool.{Bool, cond}
 use mathlib.Core.List.{List, [], _∷_, _++_, append-assoc, append-nil}
-use mathlib.Core.Path.{_≡_, refl, sym, ap, _∙_}
-use Prim.Native.Nat.{ℕ, suc, _+_, _≤_, _<_}
+use mathlib.Core.Path.{_≡_, sym, ap, _∙_}
+use Prim.Native.Nat.{ℕ, _+_, _≤_, _<_}
 use native.Mathlib.Omega.{arith}
 use native.Mathlib.Numerals.{add-one}
 use lib.ListN.{length, take, set, getD, length-set}
 use lib.Seq.{lt-length-set, take-suc, take-set-le, getD-set-same}
-use lib.Dec.{ltb}
-use borrow.Author.Tests.{ltb-true, ltb-false}
+use borrow.Author.Tests.{lt-ltb}
 use Rattle.listing.specs.Print.{wrote, Wrote}
+use Rattle.lister.specs.Genlist.{most, genlistText}
+use Rattle.lister.proofs.FitsLaws.{genlist-fits}
 
 -- one byte more
 longer : (out : List ℕ) (at b : ℕ) → at < length out → take (at + 1) (set out at b) ≡ take at out ++ (b ∷ [])
@@ -18,21 +19,27 @@ longer out at b h =
     ∙ ap (λ (w : List ℕ). w ++ (getD (set out at b) at 0 ∷ [])) (take-set-le at out at b (omega arith))
     ∙ ap (λ (x : ℕ). take at out ++ (x ∷ [])) (getD-set-same out at b 0 h)
 
-step : (t : Bool) (b : ℕ) (bs out new : List ℕ) (at to : ℕ) → ltb at (length out) ≡ t
-    → (wrote bs (set out at b) (at + 1) ≡ (new, to) → take to new ≡ take (at + 1) (set out at b) ++ bs)
-    → cond t (wrote bs (set out at b) (at + 1)) (out, at) ≡ (new, to) → to < length out → take to new ≡ take at out ++ (b ∷ bs)
-step true b bs out new at to h k e l =
-    k e ∙ ap (λ (w : List ℕ). w ++ bs) (longer out at b (ltb-true at (length out) h)) ∙ append-assoc (take at out) (b ∷ []) bs
-step false b bs out new at to h k e l = let q : at ≡ to = ap (λ (s : List ℕ × ℕ). s .1) e in absurd (omega (arith, ltb-false at (length out) h))
-
-written : (bs out new : List ℕ) (at to : ℕ) → wrote bs out at ≡ (new, to) → to < length out → take to new ≡ take at out ++ bs
+-- what is written, and how much
+written : (bs out new : List ℕ) (at to : ℕ) → wrote bs out at ≡ (new, to) → at + length bs ≤ length out
+    → (take to new ≡ take at out ++ bs) × (to ≡ at + length bs)
 unfolding wrote
 written [] out new at to e h =
     let p : out ≡ new = ap (λ (s : List ℕ × ℕ). s .0) e in
     let q : at ≡ to = ap (λ (s : List ℕ × ℕ). s .1) e in
-    rw (sym p) (rw (sym q) (sym (append-nil (take at out))))
+    (rw (sym p) (rw (sym q) (sym (append-nil (take at out)))), omega arith)
 written (b ∷ bs) out new at to e h =
-    step (ltb at (length out)) b bs out new at to refl (λ k. written bs (set out at b) new (at + 1) to k (omega (arith, length-set out at b))) e h
+    let room : at < length out = omega arith in
+    let next = ap (λ (t : Bool). cond t (wrote bs (set out at b) (at + 1)) (out, at)) (sym (lt-ltb at (length out) room)) ∙ e in
+    let w = written bs (set out at b) new (at + 1) to next (omega (arith, length-set out at b)) in
+    (w .0 ∙ ap (λ (l : List ℕ). l ++ bs) (longer out at b room) ∙ append-assoc (take at out) (b ∷ []) bs, omega (arith, w .1))
 
-pub whole : {text out new : List ℕ} {to : ℕ} → Wrote text out 0 new to → to < length out → take to new ≡ text
-whole {text} {out} {new} {to} w h = written text out new 0 to (w .by) h
+-- what genlist prints, where its buffer is long enough
+module _ (text : List ℕ) {out new : List ℕ} {to : ℕ} (w : Wrote (genlistText text) out 0 new to) (h : most ≤ length out) where
+  all : (take to new ≡ genlistText text) × (to ≡ 0 + length (genlistText text))
+  all = written (genlistText text) out new 0 to (w .by) (omega (arith, genlist-fits text))
+
+  pub whole : take to new ≡ genlistText text
+  whole = all .0
+
+  pub size : to ≡ length (genlistText text)
+  size = omega (arith, all .1)

@@ -29,6 +29,10 @@ filled new old =
     lists (over (new .markers) (old .markers)) (over (new .constants) (old .constants)) (over (new .names-out) (old .names-out))
     (over (new .errors) (old .errors)) (over (new .lines) (old .lines))
 
+-- a buffer of so many bytes holds what is printed of any text
+abbrev pub most : ℕ
+most = 1048576
+
 -- a listing, or "`refusal place`"
 abbrev pub answerText : (symbols records : List ℕ) → Out → Answer → List ℕ
 answerText symbols records o (Listing met told forecast) =

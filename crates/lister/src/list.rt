@@ -13,11 +13,11 @@ use listing::read::read;
 use tables::refusal::number;
 use tables::refusal::place;
 ghost use mathlib.Core.Path.{_≡_};
-ghost use Prim.Native.Nat.{_<_};
+ghost use Prim.Native.Nat.{_≤_};
 ghost use lib.ListN.{length, take};
 ghost use Rattle.codegen.specs.Call.{lists};
 ghost use Rattle.listing.specs.Print.{Wrote};
-ghost use Rattle.lister.specs.Genlist.{answerText, given, sized, callText, genlistText};
+ghost use Rattle.lister.specs.Genlist.{most, answerText, given, sized, callText, genlistText};
 
 fn answered(
     out: &mut [u8],
@@ -127,10 +127,11 @@ fn printed(
     )
 }
 
-// What genlist prints of a text. Where the answer is less than the buffer's length nothing is missing.
+// What genlist prints of a text: all of it, in a buffer of 1,048,576 bytes or more.
 pub fn list(text: &[u8], out: &mut [u8]) -> usize
     ensures text { λ r. ⌜ Wrote (genlistText (now (text .entry))) (now (out .entry)) 0 (now (out .exit)) r ⌝ }
-    ensures whole { λ r. ⌜ (r < length (now (out .entry)) → take r (now (out .exit)) ≡ genlistText (now (text .entry))) ⌝ }
+    ensures whole { λ r. ⌜ (most ≤ length (now (out .entry)) → take r (now (out .exit)) ≡ genlistText (now (text .entry))) ⌝ }
+    ensures size { λ r. ⌜ (most ≤ length (now (out .entry)) → r ≡ length (genlistText (now (text .entry)))) ⌝ }
 {
     let mut strings = [0u32; 280];
     let mut bytes = [0u8; 4096];
@@ -168,4 +169,11 @@ pub fn list(text: &[u8], out: &mut [u8]) -> usize
             )
         }
     }
+}
+
+// The same, into an array that is long enough.
+pub fn list_all(text: &[u8], out: &mut [u8; 1048576]) -> usize
+    ensures { λ r. ⌜ take r (now (out .exit)) ≡ genlistText (now (text .entry)) ⌝ }
+{
+    list(text, out)
 }

@@ -10,3 +10,4 @@ pub mod PrintedLaws
 pub mod RoundTrip
 pub mod ReadSamples
 pub mod ReadFits
+pub mod RowLengths

@@ -2,7 +2,7 @@
 use native.Mathlib.Omega.{arith}
 use Rattle.listing.proofs.PrintLaws.{same}
 use Rattle.lister.proofs.GenlistLaws.{list-input, list-long, list-tables}
-use Rattle.lister.proofs.WholeLaws.{whole}
+use Rattle.lister.proofs.WholeLaws.{whole, size}
 use borrow.Author.Needs.{needs}
 use Rattle.lister.proofs.list.list.Statement.{statement}
 use Rattle.lister.proofs.list.list.Tie as tie
@@ -63,8 +63,9 @@ returns c =
     let c27 = c24 .before .before .before in
     let t = c27 .args .text .now in
     let e = c16 .read .ensures .0 in
-    let w = same (list-long t _ _ _ _ (c24 .front-bytes .ensures) e (c7 .reading2 .given .1) (omega (arith, c5 .if1 .taken)) (c3 .overlong .ensures)) (c2 .input2 .ensures) in
-    (w, whole w)
+    let w = same (list-long t _ _ _ _ (c24 .front-bytes .ensures) e (c7 .reading2 .given .1) (omega (arith, c5 .if1 .taken)) (c3 .overlong .ensures))
+    (c2 .input2 .ensures) in
+    (w, (whole t w, size t w))
 
 slice-aggregate-printed : tie.Need-slice-aggregate-printed
 slice-aggregate-printed c = search needs
@@ -102,7 +103,7 @@ returns-2 c =
     let c25 = c22 .before .before .before in
     let t = c25 .args .text .now in
     let w = same (list-input t _ _ _ (c22 .front-bytes .ensures) (c14 .read .ensures .0) (c5 .reading .given .1)) (c2 .input .ensures) in
-    (w, whole w)
+    (w, (whole t w, size t w))
 
 same-length-3 : tie.Need-same-length-3
 same-length-3 c = search needs
@@ -117,8 +118,9 @@ returns-3 c =
     let c33 = c30 .before .before .before in
     let t = c33 .args .text .now in
     let r = c22 .read .ensures in
-    let w = same (list-tables t _ _ _ _ _ _ _ _ _ _ (c30 .front-bytes .ensures) (r .0) (r .1 .0) (c13 .reading2 .given .1) (omega (arith, c11 .if1 .left))) (c2 .printed .ensures) in
-    (w, whole w)
+    let w = same (list-tables t _ _ _ _ _ _ _ _ _ _ (c30 .front-bytes .ensures) (r .0) (r .1 .0) (c13 .reading2 .given .1) (omega (arith, c11 .if1 .left)))
+    (c2 .printed .ensures) in
+    (w, (whole t w, size t w))
 
 pub list-spec : {M : Type 1} → statement M
 list-spec =
