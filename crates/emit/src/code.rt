@@ -52,7 +52,7 @@ pub fn writes(nest: bool, go: bool, at: usize) -> bool
     if go { at < LIMIT } else { false }
 }
 
-// One marker more, where the run goes on. The struct is copied once, after the words are written.
+// One marker more, where the run goes on. There is one way out, which compiles to fewer copies of the struct.
 pub fn push_words(nest: bool, out: &mut [u32], st: Run, w: Words) -> Run
     ensures { λ s. ⌜ Emits nest (now (out .entry)) st (now (out .exit)) s w ⌝ }
 {
