@@ -2,6 +2,7 @@
 //!
 //! usage: bench                                            a table of times
 //!        bench --count ours|rust|build SHAPE SIZE [TIMES]   runs inside `counted`, for a profiler
+//!        bench --stack                                    the stack of a call on deep trees
 
 #![allow(dead_code, unused_imports)]
 
@@ -22,6 +23,7 @@ mod tree;
 mod node;
 mod rust;
 mod shapes;
+mod stack;
 
 use std::{
     hint::black_box,
@@ -168,7 +170,8 @@ fn work() {
             let times = times.first().map_or(1, |times| times.parse().expect("a number"));
             count(what, &mut Case::new(shape, size.parse().expect("a size")), times);
         }
-        _ => eprintln!("usage: bench [--count ours|rust|build SHAPE SIZE [TIMES]]"),
+        ["--stack"] => stack::report(),
+        _ => eprintln!("usage: bench [--count ours|rust|build SHAPE SIZE [TIMES] | --stack]"),
     }
 }
 

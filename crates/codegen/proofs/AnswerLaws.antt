@@ -19,18 +19,18 @@ use Rattle.tables.specs.Lent.{lentBroken}
 use Rattle.tables.specs.Check.{refusing, rowsOf}
 use Rattle.tables.proofs.CheckLaws.{skip, halt}
 use Rattle.tables.proofs.LentLaws.{fit}
-use Rattle.pool.specs.Names.{Semantic}
-use Rattle.pool.specs.NameWords.{over}
+use Rattle.pool.specs.Names.{Semantic, semantic}
 use Rattle.rules.specs.declared.Flow.{Flow}
 use Rattle.rules.specs.declared.Flow.the-variants.{Go, Cut, Refused as Halted}
 use Rattle.rules.specs.Marker.{Mark}
-use Rattle.rules.specs.Run.{Error, Loop, Side, State, st, flow, side, settle, anew, returned, entered, nested, full, stream, visits-of, run}
+use Rattle.rules.specs.Run.{Error, Loop, Side, State, st, flow, side, look, settle, anew, returned, entered, nested, full, stream, visits-of, run}
 use Rattle.rules.specs.Out.{Out, ended, outcome}
 use Rattle.rules.proofs.Accepted.{accepted-demand3}
 use Rattle.codegen.specs.Space.{spaceBroken}
 use Rattle.codegen.specs.declared.call.Answer.{Answer}
 use Rattle.codegen.specs.declared.call.Answer.the-variants.{Listing, Refused}
-use Rattle.codegen.specs.Call.{semantic, checkedOf, past, told, ranOf, answerOf, writtenOf, outOf, Answered, Sound, Demanded}
+use Rattle.codegen.specs.Walks.{stack-code, ran}
+use Rattle.codegen.specs.Call.{checkedOf, past, answering, ranOf, answerOf, writtenOf, Written, Answered, Sound, Demanded, numberIn, valued, Promised}
 use Rattle.codegen.proofs.DemandLaws.{on-words}
 use Rattle.codegen.proofs.ReadyLaws.{tables-kept}
 
@@ -129,10 +129,11 @@ entered-uncut : (b : Bool) (r : ℕ) (w : Words) (v : State → State) (m : List
 entered-uncut true r w v m l ls os e = returned-uncut r w m l ls os (settle (v (anew e))) (settled (v (anew e)))
 entered-uncut false r w v m l ls os e = tt
 
-run-uncut : (t : Semantic) (recs : List ℕ) → Uncut (flow (run t recs))
+run-uncut : (t : Semantic) (recs : List ℕ) → Uncut (flow (ran t recs))
 unfolding run nested
 run-uncut t recs =
-    entered-uncut (eqb (words recs 0 .p) 0) 0 (words recs 0) (stream t full 0 (words recs 0) (children recs 0) (visits-of t full (children recs 0))) [] 0 [] []
+    let o = full stack-code in
+    entered-uncut (eqb (words recs 0 .p) 0) 0 (words recs 0) (stream (look t) o 0 (words recs 0) (children recs 0) (visits-of (look t) o (children recs 0))) [] 0 [] []
     (record { errors = []; met = 0; streams = [] })
 
 module _ (symbols references functions members recs : List ℕ) (sound : Sound symbols references functions members recs) where
@@ -142,31 +143,27 @@ module _ (symbols references functions members recs : List ℕ) (sound : Sound s
   -- words that are left as the answer says
   module _ (o o′ : Out) where
     abbrev Leaves : Answer → Type 0
-    Leaves a = o′ .markers ≡ over (outOf a t recs .markers) (o .markers) → o′ .constants ≡ over (outOf a t recs .constants) (o .constants)
-        → o′ .lines ≡ over (outOf a t recs .lines) (o .lines) → Demanded a t recs (o′ .markers) (o′ .constants) (o′ .lines)
+    Leaves a = Written a t recs o o′ → Demanded a t recs (o′ .markers) (o′ .constants) (o′ .lines)
 
-    by-errors : (f : ℕ) (es : List Error) → side (run t recs) .errors ≡ es → flow (run t recs) ≡ Go → Leaves (Listing (side (run t recs) .met) (length es) f)
+    by-errors : (f : ℕ) (es : List Error) → side (ran t recs) .errors ≡ es → flow (ran t recs) ≡ Go → Leaves (Listing (side (ran t recs) .met) (length es) f)
     unfolding writtenOf
-    by-errors f [] e g em ec el =
+    by-errors f [] e g w =
         let k = tables-kept symbols references functions members recs sound in
-        on-words t recs (o .markers) (o .constants) (o .lines) (o′ .markers) (o′ .constants) (o′ .lines) em ec el
-        (accepted-demand3 (sound .strings) (sound .bytes) symbols references functions members recs (k .fits .records-some) k (g, e))
-    by-errors f (x ∷ es) e g em ec el = tt
+        on-words t recs (o .markers) (o .constants) (o .lines) (o′ .markers) (o′ .constants) (o′ .lines) (w .markers) (w .constants) (w .lines)
+        (accepted-demand3 stack-code (sound .strings) (sound .bytes) symbols references functions members recs (k .fits .records-some) k (g, e))
+    by-errors f (x ∷ es) e g w = tt
 
-    by-flow : (f : Flow) → flow (run t recs) ≡ f → Uncut f → Leaves (told recs (side (run t recs)) (ended t recs f (side (run t recs))))
-    by-flow Go e u = by-errors (32 * size recs) (side (run t recs) .errors) refl e
+    by-flow : (f : Flow) → flow (ran t recs) ≡ f → Uncut f → Leaves (answering recs (side (ran t recs)) (ended t recs f (side (ran t recs))))
+    by-flow Go e u = by-errors (32 * size recs) (side (ran t recs) .errors) refl e
     by-flow (Cut k a b) e u = absurd u
-    by-flow (Halted x r) e u = λ em ec el. tt
+    by-flow (Halted x r) e u = λ w. tt
 
     pub demanded : (a : Answer) → Answered t recs a o o′ → Demanded a t recs (o′ .markers) (o′ .constants) (o′ .lines)
     unfolding outcome
-    demanded a w = subst⁻¹ Leaves (w .answer) (by-flow (flow (run t recs)) refl (run-uncut t recs)) (w .markers) (w .constants) (w .lines)
+    demanded a w = subst⁻¹ Leaves (w .answer) (by-flow (flow (ran t recs)) refl (run-uncut t recs)) (w .written)
 
--- the same by another name of the answer
-pub same-words : (a b : Answer) → a ≡ b → (f : Out → List ℕ) (t : Semantic) (recs ws ws′ : List ℕ) → ws′ ≡ over (f (outOf a t recs)) ws → ws′ ≡ over
-    (f (outOf b t recs)) ws
-same-words a b e f t recs ws ws′ h = h ∙ ap (λ (z : Answer). over (f (outOf z t recs)) ws) e
-
-pub same-demand : (a b : Answer) → a ≡ b → (t : Semantic) (recs markers constants lines : List ℕ) → Demanded a t recs markers constants lines
-    → Demanded b t recs markers constants lines
-same-demand a b e t recs markers constants lines h = subst (λ (z : Answer). Demanded z t recs markers constants lines) e h
+-- the call for C and Rust, by another name of the answer
+pub promised : (a b : Answer) (t : Semantic) (recs : List ℕ) (n : ℕ) (values values′ : List ℕ) (o o′ : Out) → a ≡ b → n ≡ numberIn a → values′ ≡ valued a values
+    → Written a t recs o o′ → Demanded a t recs (o′ .markers) (o′ .constants) (o′ .lines) → Promised b t recs n values values′ o o′
+promised a b t recs n values values′ o o′ e p q w d =
+    subst (λ (z : Answer). Promised z t recs n values values′ o o′) e (record { number-is = p; values-are = q; written = w; demand3 = d })

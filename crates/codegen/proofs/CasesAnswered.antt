@@ -18,7 +18,7 @@ use Rattle.tables.specs.Place.{broken-from}
 use Rattle.tables.specs.Forest.{guarded, first, next, grow, forest}
 use Rattle.tables.specs.Semantic.{shareStart}
 use Rattle.pool.specs.Value.{same-list, find, seen, intern}
-use Rattle.pool.specs.Names.{share-start, index-of, with-symbol, with-symbols, names-upto, names, load, store}
+use Rattle.pool.specs.Names.{index-of, with-symbol, with-symbols, names-upto, names, load, store}
 use Rattle.rules.specs.Kinds.{steps}
 use Rattle.rules.specs.Run.{emit, bump, halt, begin, finish, outward, barred, kept, nested, exec, stream, run}
 use Rattle.rules.specs.Out.{consts, marker-words, const-words, plain-names, upvalue-words, error-words, loop-depth, stream-of, each-function, outcome}
@@ -31,15 +31,15 @@ use Rattle.codegen.specs.Call.{checkedOf, answerOf, numberIn, valuesIn}
 abbrev called : Case → ℕ → Answer
 called c markers = answerOf [] [] [] [] (4294967295 ∷ 0 ∷ []) [] (c .records) markers (9 * size (c .records)) 0 (3 * size (c .records)) 7
 
-abbrev tells : Answer → ℕ → List ℕ → Bool
-tells a n vs = eqb (numberIn a) n && same-list (valuesIn a) vs
+abbrev is-answer : Answer → ℕ → List ℕ → Bool
+is-answer a n vs = eqb (numberIn a) n && same-list (valuesIn a) vs
 
-abbrev all-told : List Case → Bool
-all-told [] = true
-all-told (c ∷ cs) =
-    tells (called c (64 * size (c .records))) 0 (1 ∷ length (c .errors) / 3 ∷ 32 * size (c .records) ∷ [])
-    && (tells (called c (64 * size (c .records) - 1)) 2 (0 ∷ 0 ∷ 0 ∷ []) && all-told cs)
+abbrev all-answered : List Case → Bool
+all-answered [] = true
+all-answered (c ∷ cs) =
+    is-answer (called c (64 * size (c .records))) 0 (1 ∷ length (c .errors) / 3 ∷ 32 * size (c .records) ∷ [])
+    && (is-answer (called c (64 * size (c .records) - 1)) 2 (0 ∷ 0 ∷ 0 ∷ []) && all-answered cs)
 
-pub cases-answered : T (all-told cases)
-unfolding refusing rowsOf unfit lentBroken sameString equalEarlier stringBad symbolBad referenceBad parentBad ownStart twice memberBad entriesBroken right-detail right-links fits right-children one named-by manner visited broken-from guarded first next grow forest shareStart find seen intern share-start index-of with-symbol with-symbols names-upto names load store steps emit bump halt begin finish outward barred kept nested exec stream run consts marker-words const-words plain-names upvalue-words error-words loop-depth stream-of each-function outcome scarce spaceBroken checkedOf answerOf
+pub cases-answered : T (all-answered cases)
+unfolding refusing rowsOf unfit lentBroken sameString equalEarlier stringBad symbolBad referenceBad parentBad ownStart twice memberBad entriesBroken right-detail right-links fits right-children one named-by manner visited broken-from guarded first next grow forest shareStart find seen intern index-of with-symbol with-symbols names-upto names load store steps emit bump halt begin finish outward barred kept nested exec stream run consts marker-words const-words plain-names upvalue-words error-words loop-depth stream-of each-function outcome scarce spaceBroken checkedOf answerOf
 cases-answered = tt

@@ -1,4 +1,4 @@
--- Demand 3 on the words that are left: a function's part of them is its stream's words. Assumes nothing.
+-- Demand 3 on the words that are left: a function's own among them are its stream's words. Assumes nothing.
 use mathlib.Core.Path.{_≡_, refl, sym, ap, ap₂, subst, subst⁻¹, _∙_}
 use mathlib.Core.Bool.{Bool, true, false}
 use mathlib.Core.List.{List, [], _++_, append-assoc, append-nil}
@@ -10,55 +10,59 @@ use lib.Dec.{ltb}
 use borrow.Author.Tests.{ltb-true, ltb-false}
 use Rattle.pool.specs.Names.{Semantic}
 use Rattle.pool.specs.NameWords.{over}
-use Rattle.rules.specs.Run.{Stream, side, run}
+use Rattle.rules.specs.Run.{Stream, State, side}
 use Rattle.rules.specs.Out.{consts, line-words, each-function}
 use Rattle.rules.specs.Demand.{Demand3, Labels, Loops, Constants, Indices}
+use Rattle.codegen.specs.Walks.{stack-code, ran}
 use Rattle.codegen.specs.Listing.{markers-of, constants-of, streamOf, metOf, first-of}
-use Rattle.codegen.specs.Demand.{counted-at, before, part, Demand3On}
+use Rattle.codegen.specs.Demand.{counted-at, before, own-words, Demand3On}
 use Rattle.codegen.proofs.LayLaws.{markers-length, constants-length}
-use Rattle.codegen.proofs.StreamsLaws.{lines-length, more-length}
+use Rattle.codegen.proofs.StreamsLaws.{all-length, more-length}
 
 module _ (t : Semantic) (recs : List ℕ) where
+  abbrev A : State
+  A = ran t recs
+
   -- what stands before, between and behind
-  split : (g : Stream → List ℕ) (f m : ℕ) → f < m → (rest : List ℕ) × (first-of t recs g m ≡ first-of t recs g f ++ (g (streamOf t recs f) ++ rest))
+  split : (g : Stream → List ℕ) (f m : ℕ) → f < m → (rest : List ℕ) × (first-of A g m ≡ first-of A g f ++ (g (streamOf A f) ++ rest))
   unfolding each-function
   split g f zero h = absurd (omega arith)
   split g f (suc m) h = go (ltb f m) refl (λ i. split g f m i)
     where
       x : List ℕ
-      x = g (streamOf t recs m)
+      x = g (streamOf A m)
 
-      longer : (rest : List ℕ) × (first-of t recs g m ≡ first-of t recs g f ++ (g (streamOf t recs f) ++ rest))
-          → (rest : List ℕ) × (first-of t recs g m ++ x ≡ first-of t recs g f ++ (g (streamOf t recs f) ++ rest))
+      longer : (rest : List ℕ) × (first-of A g m ≡ first-of A g f ++ (g (streamOf A f) ++ rest))
+          → (rest : List ℕ) × (first-of A g m ++ x ≡ first-of A g f ++ (g (streamOf A f) ++ rest))
       longer (rest, e) = (
         rest ++ x,
-        ap (λ (l : List ℕ). l ++ x) e ∙ append-assoc (first-of t recs g f) (g (streamOf t recs f) ++ rest) x
-            ∙ ap (λ (l : List ℕ). first-of t recs g f ++ l) (append-assoc (g (streamOf t recs f)) rest x),
+        ap (λ (l : List ℕ). l ++ x) e ∙ append-assoc (first-of A g f) (g (streamOf A f) ++ rest) x
+            ∙ ap (λ (l : List ℕ). first-of A g f ++ l) (append-assoc (g (streamOf A f)) rest x),
       )
 
-      go : (b : Bool) → ltb f m ≡ b → (f < m → (rest : List ℕ) × (first-of t recs g m ≡ first-of t recs g f ++ (g (streamOf t recs f) ++ rest)))
-          → (rest : List ℕ) × (first-of t recs g m ++ x ≡ first-of t recs g f ++ (g (streamOf t recs f) ++ rest))
+      go : (b : Bool) → ltb f m ≡ b → (f < m → (rest : List ℕ) × (first-of A g m ≡ first-of A g f ++ (g (streamOf A f) ++ rest)))
+          → (rest : List ℕ) × (first-of A g m ++ x ≡ first-of A g f ++ (g (streamOf A f) ++ rest))
       go true e ih = longer (ih (ltb-true f m e))
       go false e ih =
           let z : m ≡ f = omega (arith, ltb-false f m e) in (
             [],
-            ap (λ (k : ℕ). first-of t recs g k ++ g (streamOf t recs k)) z ∙ ap (λ (l : List ℕ). first-of t recs g f ++ l)
-                (sym (append-nil (g (streamOf t recs f)))),
+            ap (λ (k : ℕ). first-of A g k ++ g (streamOf A k)) z ∙ ap (λ (l : List ℕ). first-of A g f ++ l)
+                (sym (append-nil (g (streamOf A f)))),
           )
 
-  -- a function's part of the words
-  part-found : (g : Stream → List ℕ) (f m : ℕ) → f < m → (ws : List ℕ)
-      → take (length (g (streamOf t recs f))) (drop (length (first-of t recs g f)) (over (first-of t recs g m) ws)) ≡ g (streamOf t recs f)
-  part-found g f m h ws = go (split g f m h)
+  -- a function's own words
+  own-found : (g : Stream → List ℕ) (f m : ℕ) → f < m → (ws : List ℕ)
+      → take (length (g (streamOf A f))) (drop (length (first-of A g f)) (over (first-of A g m) ws)) ≡ g (streamOf A f)
+  own-found g f m h ws = go (split g f m h)
     where
       xs : List ℕ
-      xs = first-of t recs g m
+      xs = first-of A g m
 
       a : List ℕ
-      a = first-of t recs g f
+      a = first-of A g f
 
       b : List ℕ
-      b = g (streamOf t recs f)
+      b = g (streamOf A f)
 
       go : (rest : List ℕ) × (xs ≡ a ++ (b ++ rest)) → take (length b) (drop (length a) (over xs ws)) ≡ b
       go (rest, e) =
@@ -70,89 +74,89 @@ module _ (t : Semantic) (recs : List ℕ) where
 
   -- and a word of its line
   line-word : (f m : ℕ) → f < m → (j : ℕ) → j < 7 → (ws : List ℕ)
-      → getD (over (first-of t recs (line-words t recs) m) ws) (f * 7 + j) 0 ≡ getD (line-words t recs (streamOf t recs f)) j 0
+      → getD (over (first-of A (line-words t recs) m) ws) (f * 7 + j) 0 ≡ getD (line-words t recs (streamOf A f)) j 0
   line-word f m h j i ws = go (split (line-words t recs) f m h)
     where
       xs : List ℕ
-      xs = first-of t recs (line-words t recs) m
+      xs = first-of A (line-words t recs) m
 
       a : List ℕ
-      a = first-of t recs (line-words t recs) f
+      a = first-of A (line-words t recs) f
 
       b : List ℕ
-      b = line-words t recs (streamOf t recs f)
+      b = line-words t recs (streamOf A f)
 
       go : (rest : List ℕ) × (xs ≡ a ++ (b ++ rest)) → getD (over xs ws) (f * 7 + j) 0 ≡ getD b j 0
       go (rest, e) =
           let d = drop (length xs) ws in
-          let z : f * 7 + j ≡ length a + j = omega (arith, lines-length t recs f) in
+          let z : f * 7 + j ≡ length a + j = omega (arith, all-length A (line-words t recs) 7 (λ x. refl) f) in
           ap (λ (k : ℕ). getD (over xs ws) k 0) z
           ∙ ap (λ (l : List ℕ). getD (l ++ d) (length a + j) 0) e ∙ ap (λ (l : List ℕ). getD l (length a + j) 0) (append-assoc a (b ++ rest) d)
           ∙ getD-append-add a ((b ++ rest) ++ d) j 0 ∙ ap (λ (l : List ℕ). getD l j 0) (append-assoc b rest d) ∙ List·getD-append b (rest ++ d) 0 j i
 
-  module _ (markers constants lines markers′ constants′ lines′ : List ℕ) (em : markers′ ≡ over (first-of t recs markers-of (metOf t recs)) markers)
-      (ec : constants′ ≡ over (first-of t recs constants-of (metOf t recs)) constants)
-      (el : lines′ ≡ over (first-of t recs (line-words t recs) (metOf t recs)) lines) where
-    told : (f : ℕ) → f < metOf t recs → (j : ℕ) → j < 7 → counted-at j lines′ f ≡ getD (line-words t recs (streamOf t recs f)) j 0
-    told f h j i = ap (λ (l : List ℕ). getD l (f * 7 + j) 0) el ∙ line-word f (metOf t recs) h j i lines
+  module _ (markers constants lines markers′ constants′ lines′ : List ℕ) (em : markers′ ≡ over (first-of A markers-of (metOf A)) markers)
+      (ec : constants′ ≡ over (first-of A constants-of (metOf A)) constants)
+      (el : lines′ ≡ over (first-of A (line-words t recs) (metOf A)) lines) where
+    line-is : (f : ℕ) → f < metOf A → (j : ℕ) → j < 7 → counted-at j lines′ f ≡ getD (line-words t recs (streamOf A f)) j 0
+    line-is f h j i = ap (λ (l : List ℕ). getD l (f * 7 + j) 0) el ∙ line-word f (metOf A) h j i lines
 
-    marks-told : (f : ℕ) → f < metOf t recs → counted-at 0 lines′ f ≡ length (streamOf t recs f .marks)
-    marks-told f h = told f h 0 (omega arith)
+    marks-counted : (f : ℕ) → f < metOf A → counted-at 0 lines′ f ≡ length (streamOf A f .marks)
+    marks-counted f h = line-is f h 0 (omega arith)
 
-    labels-told : (f : ℕ) → f < metOf t recs → counted-at 1 lines′ f ≡ streamOf t recs f .labels
-    labels-told f h = told f h 1 (omega arith)
+    labels-are : (f : ℕ) → f < metOf A → counted-at 1 lines′ f ≡ streamOf A f .labels
+    labels-are f h = line-is f h 1 (omega arith)
 
-    consts-told : (f : ℕ) → f < metOf t recs → counted-at 2 lines′ f ≡ length (consts (streamOf t recs f .marks))
-    consts-told f h = told f h 2 (omega arith)
+    consts-counted : (f : ℕ) → f < metOf A → counted-at 2 lines′ f ≡ length (consts (streamOf A f .marks))
+    consts-counted f h = line-is f h 2 (omega arith)
 
-    markers-before : (f : ℕ) → f ≤ metOf t recs → before 2 0 lines′ f ≡ length (first-of t recs markers-of f)
+    markers-before : (f : ℕ) → f ≤ metOf A → before 2 0 lines′ f ≡ length (first-of A markers-of f)
     unfolding before each-function
     markers-before zero h = refl
     markers-before (suc f) h =
-        let x = streamOf t recs f in
-        ap (λ (k : ℕ). before 2 0 lines′ f + 2 * k) (marks-told f (omega arith))
-        ∙ omega (arith, markers-before f (omega arith), more-length t recs markers-of f, markers-length (consts (x .marks)) (x .marks))
+        let x = streamOf A f in
+        ap (λ (k : ℕ). before 2 0 lines′ f + 2 * k) (marks-counted f (omega arith))
+        ∙ omega (arith, markers-before f (omega arith), more-length A markers-of f, markers-length (consts (x .marks)) (x .marks))
 
-    constants-before : (f : ℕ) → f ≤ metOf t recs → before 3 2 lines′ f ≡ length (first-of t recs constants-of f)
+    constants-before : (f : ℕ) → f ≤ metOf A → before 3 2 lines′ f ≡ length (first-of A constants-of f)
     unfolding before each-function
     constants-before zero h = refl
     constants-before (suc f) h =
-        let x = streamOf t recs f in
-        ap (λ (k : ℕ). before 3 2 lines′ f + 3 * k) (consts-told f (omega arith))
-        ∙ omega (arith, constants-before f (omega arith), more-length t recs constants-of f, constants-length (consts (x .marks)))
+        let x = streamOf A f in
+        ap (λ (k : ℕ). before 3 2 lines′ f + 3 * k) (consts-counted f (omega arith))
+        ∙ omega (arith, constants-before f (omega arith), more-length A constants-of f, constants-length (consts (x .marks)))
 
-    markers-part : (f : ℕ) → f < metOf t recs → part 2 0 lines′ markers′ f ≡ markers-of (streamOf t recs f)
-    markers-part f h =
-        let x = streamOf t recs f in
+    own-markers : (f : ℕ) → f < metOf A → own-words 2 0 lines′ markers′ f ≡ markers-of (streamOf A f)
+    own-markers f h =
+        let x = streamOf A f in
         ap₂ (λ (n : ℕ) (l : List ℕ). take n (drop (before 2 0 lines′ f) l))
-        (ap (λ (k : ℕ). 2 * k) (marks-told f h) ∙ sym (markers-length (consts (x .marks)) (x .marks))) em
-        ∙ ap (λ (n : ℕ). take (length (markers-of x)) (drop n (over (first-of t recs markers-of (metOf t recs)) markers))) (markers-before f (omega arith))
-        ∙ part-found markers-of f (metOf t recs) h markers
+        (ap (λ (k : ℕ). 2 * k) (marks-counted f h) ∙ sym (markers-length (consts (x .marks)) (x .marks))) em
+        ∙ ap (λ (n : ℕ). take (length (markers-of x)) (drop n (over (first-of A markers-of (metOf A)) markers))) (markers-before f (omega arith))
+        ∙ own-found markers-of f (metOf A) h markers
 
-    constants-part : (f : ℕ) → f < metOf t recs → part 3 2 lines′ constants′ f ≡ constants-of (streamOf t recs f)
-    constants-part f h =
-        let x = streamOf t recs f in
+    own-constants : (f : ℕ) → f < metOf A → own-words 3 2 lines′ constants′ f ≡ constants-of (streamOf A f)
+    own-constants f h =
+        let x = streamOf A f in
         ap₂ (λ (n : ℕ) (l : List ℕ). take n (drop (before 3 2 lines′ f) l))
-        (ap (λ (k : ℕ). 3 * k) (consts-told f h) ∙ sym (constants-length (consts (x .marks)))) ec
-        ∙ ap (λ (n : ℕ). take (length (constants-of x)) (drop n (over (first-of t recs constants-of (metOf t recs)) constants))) (constants-before f (omega arith))
-        ∙ part-found constants-of f (metOf t recs) h constants
+        (ap (λ (k : ℕ). 3 * k) (consts-counted f h) ∙ sym (constants-length (consts (x .marks)))) ec
+        ∙ ap (λ (n : ℕ). take (length (constants-of x)) (drop n (over (first-of A constants-of (metOf A)) constants))) (constants-before f (omega arith))
+        ∙ own-found constants-of f (metOf A) h constants
 
     -- demand 3 of the streams is demand 3 of the words
-    pub on-words : Demand3 t recs (side (run t recs)) → Demand3On t recs markers′ constants′ lines′ (metOf t recs)
+    pub on-words : Demand3 stack-code t recs (side A) → Demand3On t recs markers′ constants′ lines′ (metOf A)
     on-words d f h =
-        let x = streamOf t recs f in
+        let x = streamOf A f in
         let s = d f h in
-        let e = markers-part f h in
-        let n = marks-told f h in
-        let l = labels-told f h in
+        let e = own-markers f h in
+        let n = marks-counted f h in
+        let l = labels-are f h in
         record {
           counted = l ∙ s .counted;
-          labels = subst⁻¹ (λ (k : ℕ). Labels (part 2 0 lines′ markers′ f) (counted-at 0 lines′ f) k) l
+          labels = subst⁻¹ (λ (k : ℕ). Labels (own-words 2 0 lines′ markers′ f) (counted-at 0 lines′ f) k) l
               (both (λ (ws : List ℕ) (k : ℕ). Labels ws k (x .labels)) e n (s .labels));
           loops = both (λ (ws : List ℕ) (k : ℕ). Loops recs x ws k) e n (s .loops);
-          constants-are = constants-part f h;
+          constants-are = own-constants f h;
           constants-right = both (λ (ws : List ℕ) (k : ℕ). Constants (consts (x .marks)) ws k) e n (s .constants);
-          indices = both (λ (ws : List ℕ) (k : ℕ). Indices t f (metOf t recs) (consts (x .marks)) ws k) e n (s .indices);
+          indices = both (λ (ws : List ℕ) (k : ℕ). Indices t f (metOf A) (consts (x .marks)) ws k) e n (s .indices);
         }
       where
         both : (P : List ℕ → ℕ → Type 0) {ws vs : List ℕ} {k n : ℕ} → ws ≡ vs → k ≡ n → P vs n → P ws k

@@ -14,7 +14,9 @@ use Rattle.pool.proofs.ConstsLaws.{find-seen, find-later, seen-later, seen-inte
 use Rattle.rules.specs.Marker.{Op, Label, To, Back, Leave, Load, Do, Mark, mark}
 use Rattle.rules.specs.Run.{Error, error}
 use Rattle.rules.specs.Out.{consts, brought, code-word, operand-word, marker-words, const-words, error-words}
-use Rattle.emit.specs.Sim.{limit, cap, put2, lay, note}
+use Rattle.emit.specs.Words.{limit, cap}
+use Rattle.emit.specs.Sinks.{put2}
+use Rattle.emit.specs.Rep.{lay, note}
 use Rattle.emit.proofs.ConstLaws.{table-short}
 use Rattle.codegen.specs.Listing.{Small, AllSmall}
 use Rattle.codegen.proofs.OverLaws.{over-length, over-sets}

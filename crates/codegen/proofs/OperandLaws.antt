@@ -1,23 +1,52 @@
--- Every operand of a function walked by itself is one that a word holds: labels are among those taken, names inside their tables. Assumes that words hold
--- the records' words and the number of records and members.
-use mathlib.Core.Path.{refl, sym, subst}
-use mathlib.Core.Bool.{Bool, true, false, cond}
+-- Every operand of a function walked by itself is one that a word holds: labels are among those taken, names as a note holds them. Assumes that words hold
+-- the records' words and the number of records.
+use mathlib.Core.Path.{_≡_, refl, sym, subst}
+use mathlib.Core.Bool.{Bool, true, false, cond, _||_}
 use mathlib.Core.List.{List, [], _∷_, _++_}
-use Prim.Native.Nat.{ℕ, zero, suc, _+_, _*_, _≤_}
+use Prim.Native.Nat.{ℕ, zero, suc, _+_, _*_, _/_, _%_, _≤_}
 use native.Mathlib.Omega.{arith}
-use lib.ListN.{length, getD, take as front, drop, length-take, length-drop}
-use lib.Dec.{T, leb, leb→le}
-use Rattle.tables.specs.Record.{Words, words, word, is-do, is-function}
-use Rattle.tables.specs.Forest.{Forest, none, tree, bare, own-tree, count, children, first, root}
+use lib.ListN.{getD, take as front}
+use lib.Dec.{T, leb, ltb, eqb, leb→le}
+use borrow.Author.Tests.{ltb-true, eqb-true, eqb-false}
+use Rattle.tables.specs.Record.{Words, words, is-do, is-function}
+use Rattle.tables.specs.Forest.{Forest, none, tree, Nodes, bare, own-tree, count, children, first, root}
+use Rattle.tables.specs.declared.refusal.RunRule.{RunRule}
+use Rattle.tables.specs.declared.refusal.RunRule.the-variants.{Reference, Load, Store}
 use Rattle.tables.proofs.ForestLaws.{Each, each, and-l, and-r, Genuine, genuine}
-use Rattle.pool.specs.Names.{Semantic, Access, local, global, upvalue, missing, names, load, store, share, member-count, share-start}
-use Rattle.pool.proofs.NamesLaws.{InTable, load-inside, store-inside, names-count}
-use Rattle.rules.specs.Marker.{Way, Break, Continue, Op, Label, To, Back, Leave, Load, Do, Mark, mark}
-use Rattle.rules.specs.Step.{Role, Keep, pass, keep, Use, Get, Set, Step, say, put, take, place, jump, back, visit, enter, leave, exit, bar, seek, stop, inner}
-use Rattle.rules.specs.Arms.{stream-steps}
-use Rattle.rules.specs.Kinds.{steps}
+use Rattle.pool.specs.Value.{function}
+use Rattle.pool.specs.Names.{Access, local, global, upvalue, missing}
+use Rattle.pool.specs.Notes.{load-of, store-of, load-noted, store-noted}
 use Rattle.rules.specs.declared.Flow.{Flow}
 use Rattle.rules.specs.declared.Flow.the-variants.{Go, Cut, Refused}
+use Rattle.rules.specs.declared.StackCode.{StackCode}
+use Rattle.rules.specs.Marker.{Way, Break, Continue, LoadConst, Call, Op, Label, To, Back, Leave, Load as Loads, Do, Mark, mark}
+use Rattle.rules.specs.Step.{
+  Role,
+  Keep,
+  pass,
+  keep,
+  Use,
+  Get,
+  Set,
+  Step,
+  push-op,
+  push-const,
+  get-label,
+  place,
+  jump,
+  jump-back,
+  visit,
+  begin-loop,
+  end-loop,
+  exit,
+  check-return,
+  access,
+  refuse,
+  inner,
+  load,
+}
+use Rattle.rules.specs.Arms.{function-steps, stream-steps}
+use Rattle.rules.specs.Kinds.{steps}
 use Rattle.rules.specs.Run.{
   Loop,
   loop,
@@ -39,7 +68,8 @@ use Rattle.rules.specs.Run.{
   here,
   nowhere,
   spot-at,
-  look,
+  number-of,
+  Lookup,
   sought,
   settle,
   kept,
@@ -47,8 +77,6 @@ use Rattle.rules.specs.Run.{
   idle,
   keeping,
   Mode,
-  act,
-  named,
   exec,
   child-visit,
   stream,
@@ -57,18 +85,21 @@ use Rattle.rules.specs.Run.{
   alone,
 }
 use Rattle.rules.proofs.Visits.{visit-of}
+use Rattle.rules.proofs.StepsOk.{function-only}
+use Rattle.rules.proofs.Tame.{no-name, no-function, held-by, tame, tally, Modest}
+use Rattle.rules.proofs.Pure.{steps-tame, stream-tame}
 use Rattle.rules.proofs.Invariant.{Everywhere}
-use Rattle.emit.specs.Sim.{limit}
+use Rattle.emit.specs.Words.{limit}
+use Rattle.emit.specs.Does.{access-noted, noted-look}
 use Rattle.codegen.specs.Listing.{AllSmall}
-use Rattle.codegen.proofs.OperandKinds.{small, tally, Modest, steps-small, stream-small}
 
--- an operand, where l labels were taken
+-- an operand, where n labels were taken
 abbrev Bound : ℕ → Op → Type 0
 Bound n (Label l) = l ≤ n
 Bound n (To h l) = l ≤ n
 Bound n (Back l) = l ≤ n
 Bound n (Leave x l) = l ≤ n
-Bound n (Load c v) = Unit {0}
+Bound n (Loads c v) = Unit {0}
 Bound n (Do c x) = x ≤ limit
 
 abbrev AllBound : ℕ → List Mark → Type 0
@@ -88,7 +119,7 @@ more-bound n m h (Label l) b = omega arith
 more-bound n m h (To x l) b = omega arith
 more-bound n m h (Back l) b = omega arith
 more-bound n m h (Leave x l) b = omega arith
-more-bound n m h (Load c v) b = tt
+more-bound n m h (Loads c v) b = tt
 more-bound n m h (Do c x) b = b
 
 more-marks : (n m : ℕ) → n ≤ m → (ms : List Mark) → AllBound n ms → AllBound m ms
@@ -126,124 +157,77 @@ pub record Holds (s : State) : Type 0 where
   pub markers : AllBound (labels s) (marks s)
   pub opens : AllLoops (labels s) (loops s)
 
--- and no label is given back
-pub record Keeps (v : State → State) : Type 0 where
-  pub holds : (s : State) → Holds s → Holds (v s)
-  pub more : (s : State) → labels s ≤ labels (v s)
+-- so it is after some steps, and no label is given back
+pub record After (s s′ : State) : Type 0 where
+  pub holds : Holds s′
+  pub more : labels s ≤ labels s′
 
-emit-keeps : (n : ℕ) (r : ℕ) (x : Op) (s : State) → n ≤ labels s → Bound n x → Holds s → Holds (emit (mark r x) s)
+abbrev Keeps : (State → State) → Type 0
+Keeps v = (s : State) → Holds s → After s (v s)
+
+stay : (s : State) → Holds s → After s s
+stay s h = record { holds = h; more = omega arith }
+
+then-after : (s s₁ s₂ : State) → After s s₁ → After s₁ s₂ → After s s₂
+then-after s s₁ s₂ a b = record { holds = b .holds; more = omega (arith, a .more, b .more) }
+
+emit-keeps : (r : ℕ) (x : Op) (s : State) → Bound (labels s) x → Holds s → After s (emit (mark r x) s)
 unfolding emit
-emit-keeps n r x (st m l ls os Go e) g b h = record { markers = (more-bound n l g x b, h .markers); opens = h .opens }
-emit-keeps n r x (st m l ls os (Cut k a d) e) g b h = h
-emit-keeps n r x (st m l ls os (Refused y q) e) g b h = h
+emit-keeps r x (st m l ls os Go e) b h = record { holds = record { markers = (b, h .markers); opens = h .opens }; more = omega arith }
+emit-keeps r x (st m l ls os (Cut k a d) e) b h = stay _ h
+emit-keeps r x (st m l ls os (Refused y q) e) b h = stay _ h
 
-emit-more : (x : Mark) (s : State) → labels s ≤ labels (emit x s)
-unfolding emit
-emit-more x (st m l ls os Go e) = omega arith
-emit-more x (st m l ls os (Cut k a d) e) = omega arith
-emit-more x (st m l ls os (Refused y q) e) = omega arith
-
-bump-holds : (s : State) → Holds s → Holds (bump s)
+bump-keeps : Keeps bump
 unfolding bump
-bump-holds (st m l ls os Go e) h = record { markers = more-marks l (suc l) (omega arith) m (h .markers); opens = more-loops l (suc l) (omega arith) ls (h .opens) }
-bump-holds (st m l ls os (Cut k a d) e) h = h
-bump-holds (st m l ls os (Refused y q) e) h = h
-
-bump-more : (s : State) → labels s ≤ labels (bump s)
-unfolding bump
-bump-more (st m l ls os Go e) = omega arith
-bump-more (st m l ls os (Cut k a d) e) = omega arith
-bump-more (st m l ls os (Refused y q) e) = omega arith
-
-halt-holds : (f : Flow) (s : State) → Holds s → Holds (halt f s)
-unfolding halt
-halt-holds f (st m l ls os Go e) h = record { markers = h .markers; opens = h .opens }
-halt-holds f (st m l ls os (Cut k a d) e) h = h
-halt-holds f (st m l ls os (Refused y q) e) h = h
-
-halt-more : (f : Flow) (s : State) → labels s ≤ labels (halt f s)
-unfolding halt
-halt-more f (st m l ls os Go e) = omega arith
-halt-more f (st m l ls os (Cut k a d) e) = omega arith
-halt-more f (st m l ls os (Refused y q) e) = omega arith
+bump-keeps (st m l ls os Go e) h = record {
+  holds = record { markers = more-marks l (suc l) (omega arith) m (h .markers); opens = more-loops l (suc l) (omega arith) ls (h .opens) };
+  more = omega arith;
+}
+bump-keeps (st m l ls os (Cut k a d) e) h = stay _ h
+bump-keeps (st m l ls os (Refused y q) e) h = stay _ h
 
 halt-keeps : (f : Flow) → Keeps (halt f)
-halt-keeps f = record { holds = halt-holds f; more = halt-more f }
+unfolding halt
+halt-keeps f (st m l ls os Go e) h = record { holds = record { markers = h .markers; opens = h .opens }; more = omega arith }
+halt-keeps f (st m l ls os (Cut k a d) e) h = stay _ h
+halt-keeps f (st m l ls os (Refused y q) e) h = stay _ h
 
-begin-holds : (i r c b : ℕ) (s : State) → c ≤ labels s → b ≤ labels s → Holds s → Holds (begin (front i) (loop r c b) s)
+begin-keeps : (i r c b : ℕ) (s : State) → c ≤ labels s → b ≤ labels s → Holds s → After s (begin (front i) (loop r c b) s)
 unfolding begin
-begin-holds i r c b (st m l ls os Go e) p q h = record { markers = h .markers; opens = front-loops l i (loop r c b ∷ ls) (p, q, h .opens) }
-begin-holds i r c b (st m l ls os (Cut k a d) e) p q h = h
-begin-holds i r c b (st m l ls os (Refused y z) e) p q h = h
+begin-keeps i r c b (st m l ls os Go e) p q h =
+    record { holds = record { markers = h .markers; opens = front-loops l i (loop r c b ∷ ls) (p, q, h .opens) }; more = omega arith }
+begin-keeps i r c b (st m l ls os (Cut k a d) e) p q h = stay _ h
+begin-keeps i r c b (st m l ls os (Refused y z) e) p q h = stay _ h
 
-begin-more : (i : ℕ) (x : Loop) (s : State) → labels s ≤ labels (begin (front i) x s)
-unfolding begin
-begin-more i x (st m l ls os Go e) = omega arith
-begin-more i x (st m l ls os (Cut k a d) e) = omega arith
-begin-more i x (st m l ls os (Refused y q) e) = omega arith
-
-finish-holds : (s : State) → Holds s → Holds (finish s)
+finish-keeps : Keeps finish
 unfolding finish
-finish-holds (st m l ls os Go e) h = record { markers = h .markers; opens = dropped-loops l ls (h .opens) }
-finish-holds (st m l ls os (Cut k a d) e) h = h
-finish-holds (st m l ls os (Refused y q) e) h = h
+finish-keeps (st m l ls os Go e) h = record { holds = record { markers = h .markers; opens = dropped-loops l ls (h .opens) }; more = omega arith }
+finish-keeps (st m l ls os (Cut k a d) e) h = stay _ h
+finish-keeps (st m l ls os (Refused y q) e) h = stay _ h
 
-finish-more : (s : State) → labels s ≤ labels (finish s)
-unfolding finish
-finish-more (st m l ls os Go e) = omega arith
-finish-more (st m l ls os (Cut k a d) e) = omega arith
-finish-more (st m l ls os (Refused y q) e) = omega arith
-
-way-holds : (r : ℕ) (w : Words) (x : Way) (us : List Loop) (s : State) → AllLoops (labels s) us → Holds s → Holds (way-out r w x us s)
-way-holds r w x [] s b h = halt-holds _ s h
-way-holds r w Break (loop o c d ∷ us) s (p, q, b) h = emit-keeps (labels s) r (Leave Break d) s (omega arith) q h
-way-holds r w Continue (loop o c d ∷ us) s (p, q, b) h = emit-keeps (labels s) r (Leave Continue c) s (omega arith) p h
-
-way-more : (r : ℕ) (w : Words) (x : Way) (us : List Loop) (s : State) → labels s ≤ labels (way-out r w x us s)
-way-more r w x [] s = halt-more _ s
-way-more r w x (loop o c d ∷ us) s = emit-more _ s
+way-keeps : (r : ℕ) (w : Words) (x : Way) (us : List Loop) (s : State) → AllLoops (labels s) us → Holds s → After s (way-out r w x us s)
+way-keeps r w x [] s b h = halt-keeps _ s h
+way-keeps r w Break (loop o c d ∷ us) s (p, q, b) h = emit-keeps r (Leave Break d) s q h
+way-keeps r w Continue (loop o c d ∷ us) s (p, q, b) h = emit-keeps r (Leave Continue c) s p h
 
 barred-keeps : (w : Words) (b : Bool) → Keeps (barred w b)
 unfolding barred
-barred-keeps w true = halt-keeps _
-barred-keeps w false = record { holds = λ s h. h; more = λ s. omega arith }
+barred-keeps w true s h = halt-keeps _ s h
+barred-keeps w false s h = stay s h
 
 settle-keeps : Keeps settle
-settle-keeps = record { holds = go; more = up }
-  where
-    go : (s : State) → Holds s → Holds (settle s)
-    go (st m l ls os Go e) h = h
-    go (st m l ls os (Cut k a b) e) h = record { markers = h .markers; opens = h .opens }
-    go (st m l ls os (Refused x r) e) h = h
-
-    up : (s : State) → labels s ≤ labels (settle s)
-    up (st m l ls os Go e) = omega arith
-    up (st m l ls os (Cut k a b) e) = omega arith
-    up (st m l ls os (Refused x r) e) = omega arith
-
-then-keeps : (v u : State → State) → Keeps v → Keeps u → Keeps (λ s. u (v s))
-then-keeps v u k j = record { holds = λ s h. j .holds (v s) (k .holds s h); more = λ s. omega (arith, k .more s, j .more (v s)) }
-
-kept-keeps : (v : State → State) → Keeps v → Keeps (kept v)
-unfolding kept
-kept-keeps v k = record { holds = go; more = up }
-  where
-    both : Keeps (λ s. settle (v s))
-    both = then-keeps v settle k settle-keeps
-
-    go : (s : State) → Holds s → Holds (kept v s)
-    go (st m l ls os Go e) h = both .holds (st m l ls os Go e) h
-    go (st m l ls os (Cut x a b) e) h = h
-    go (st m l ls os (Refused x r) e) h = h
-
-    up : (s : State) → labels s ≤ labels (kept v s)
-    up (st m l ls os Go e) = both .more (st m l ls os Go e)
-    up (st m l ls os (Cut x a b) e) = omega arith
-    up (st m l ls os (Refused x r) e) = omega arith
+settle-keeps (st m l ls os Go e) h = stay _ h
+settle-keeps (st m l ls os (Cut k a b) e) h = record { holds = record { markers = h .markers; opens = h .opens }; more = omega arith }
+settle-keeps (st m l ls os (Refused x r) e) h = stay _ h
 
 keeping-keeps : (y : Keep) (v : State → State) → Keeps v → Keeps (keeping y v)
-keeping-keeps pass v k = k
-keeping-keeps keep v k = kept-keeps v k
+unfolding kept
+keeping-keeps pass v k s h = k s h
+keeping-keeps keep v k (st m l ls os Go e) h =
+    let a = k (st m l ls os Go e) h in
+    then-after _ (v (st m l ls os Go e)) _ a (settle-keeps (v (st m l ls os Go e)) (a .holds))
+keeping-keeps keep v k (st m l ls os (Cut x a b) e) h = stay _ h
+keeping-keeps keep v k (st m l ls os (Refused x r) e) h = stay _ h
 
 -- a name's place
 abbrev Near : Access → Type 0
@@ -253,146 +237,139 @@ Near (upvalue n) = n ≤ limit
 Near (missing x) = Unit {0}
 
 sought-keeps : (r : ℕ) (u : Use) (i : ℕ) (x : Access) → Near x → Keeps (sought r u i x)
-sought-keeps r u i (local n) b = record { holds = λ s h. emit-keeps (labels s) r (Do _ n) s (omega arith) b h; more = λ s. emit-more _ s }
-sought-keeps r u i (global n) b = record { holds = λ s h. emit-keeps (labels s) r (Do _ n) s (omega arith) b h; more = λ s. emit-more _ s }
-sought-keeps r u i (upvalue n) b = record { holds = λ s h. emit-keeps (labels s) r (Do _ n) s (omega arith) b h; more = λ s. emit-more _ s }
-sought-keeps r u i (missing x) b = halt-keeps _
+sought-keeps r u i (local n) b s h = emit-keeps r (Do _ n) s b h
+sought-keeps r u i (global n) b s h = emit-keeps r (Do _ n) s b h
+sought-keeps r u i (upvalue n) b s h = emit-keeps r (Do _ n) s b h
+sought-keeps r u i (missing x) b s h = halt-keeps _ s h
+
+-- one of a note has twelve bits
+either-near : (b : Bool) (x y : Access) → Near x → Near y → Near (cond b x y)
+either-near true x y p q = p
+either-near false x y p q = q
+
+index-few : (n : ℕ) → n % 4096 ≤ limit
+index-few n = omega arith
+
+load-near : (n : ℕ) → Near (load-of n)
+unfolding load-of
+load-near n =
+    either-near (eqb (n / 4096) 3) _ _ (index-few n) (either-near (eqb (n / 4096) 4) _ _ (index-few n)
+    (either-near (eqb (n / 4096) 5) _ _ (index-few n) (either-near (eqb (n / 4096) 11) (missing Load) (missing Reference) tt tt)))
+
+store-near : (n : ℕ) → Near (store-of n)
+unfolding store-of
+store-near n =
+    either-near (eqb (n / 4096) 7) _ _ (index-few n) (either-near (eqb (n / 4096) 8) _ _ (index-few n)
+    (either-near (eqb (n / 4096) 12) (missing Store) (missing Reference) tt tt))
+
+noted-near : (ns : List ℕ) (u : Use) (i : ℕ) → Near (access-noted ns u i)
+unfolding load-noted store-noted
+noted-near ns Get i = either-near (ltb i 4096) _ (missing Reference) (load-near _) tt
+noted-near ns Set i = either-near (ltb i 4096) _ (missing Reference) (store-near _) tt
+
+-- an operand that passes the test
+operand-few : (x : ℕ) → T (held-by limit x) → x ≤ limit
+operand-few x q = go (ltb x 8) refl q
+  where
+    go : (b : Bool) → ltb x 8 ≡ b → T (b || leb x limit) → x ≤ limit
+    go true e p = omega (arith, ltb-true x 8 e)
+    go false e p = leb→le x limit p
 
 -- records whose words and trees words hold
 abbrev pub AllModest : Forest → Type 0
 AllModest none = Unit {0}
-AllModest (tree r w k s) = Modest w (own-tree k) × AllModest k × AllModest s
+AllModest (tree r w k s) = Modest limit w (own-tree k) × AllModest k × AllModest s
 
-module _ (t : Semantic) (few : length (t .members) ≤ limit) (i : ℕ) where
+module _ (sc : StackCode) (ns : List ℕ) (i : ℕ) where
   abbrev o : Mode
-  o = record { nest = false; trim = front i }
+  o = record { code = sc; nest = false; trim = front i }
 
-  share-few : (f : ℕ) → length (share t f) ≤ limit
-  share-few f =
-      let d = drop (share-start t f) (t .members) in
-      omega (arith, length-take (member-count t f) d, length-drop (share-start t f) (t .members))
-
-  near : (f : ℕ) (x : Access) → InTable (names t f) x → Near x
-  near f (local n) h = omega (arith, names-count t f, share-few f)
-  near f (global n) h = omega (arith, names-count t f, share-few f)
-  near f (upvalue n) h = omega (arith, names-count t f, share-few f)
-  near f (missing x) h = tt
-
-  look-near : (fn : Words) (u : Use) (p : Spot) → Near (look t fn u p)
-  look-near fn Get (here r w) = near (fn .p) (load t (fn .p) (w .p)) (load-inside t (fn .p) (w .p))
-  look-near fn Set (here r w) = near (fn .p) (store t (fn .p) (w .p)) (store-inside t (fn .p) (w .p))
-  look-near fn Get nowhere = tt
-  look-near fn Set nowhere = tt
+  abbrev L : Lookup
+  L = noted-look ns
 
   module _ (fn : Words) (r : ℕ) (w : Words) (k : Forest) (vs : Role → ℕ → State → State) (body : State → State)
       (child-keeps : (a : Role) (j : ℕ) → Keeps (vs a j)) where
-    -- a step of a list that passes the test, with labels env taken before
-    act-holds : (x : Step) (is : List Step) (env : List ℕ) (s : State) → T (small (x ∷ is)) → AllLabels (labels s) env → Holds s
-        → Holds (act t o fn r w k vs body x env s)
-    unfolding small outward nested
-    act-holds (say c x) is env s q b h = emit-keeps (labels s) r (Do c x) s (omega arith) (leb→le x limit (and-l (leb x limit) (small is) q)) h
-    act-holds (put c p v) is env s q b h = emit-keeps (labels s) _ (Load c v) s (omega arith) tt h
-    act-holds take is env s q b h = bump-holds s h
-    act-holds (place j) is env s q b h = emit-keeps (labels s) r (Label (getD env j 0)) s (omega arith) (label-at (labels s) env j b) h
-    act-holds (jump x j) is env s q b h = emit-keeps (labels s) r (To x (getD env j 0)) s (omega arith) (label-at (labels s) env j b) h
-    act-holds (back j) is env s q b h = emit-keeps (labels s) r (Back (getD env j 0)) s (omega arith) (label-at (labels s) env j b) h
-    act-holds (visit y a j) is env s q b h = keeping-keeps y (vs a j) (child-keeps a j) .holds s h
-    act-holds (enter x j) is env s q b h = begin-holds i r (getD env x 0) (getD env j 0) s (label-at (labels s) env x b) (label-at (labels s) env j b) h
-    act-holds leave is env s q b h = finish-holds s h
-    act-holds (exit x) is env s q b h = way-holds r w x (loops s) s (h .opens) h
-    act-holds bar is env s q b h = barred-keeps w (is-do fn) .holds s h
-    act-holds (seek u p) is env s q b h = sought-keeps r u _ (look t fn u (spot-at (tree r w k none) p)) (look-near fn u (spot-at (tree r w k none) p)) .holds s h
-    act-holds (stop x) is env s q b h = halt-holds _ s h
-    act-holds inner is env s q b h = h
+    -- one step, then the others
+    onward : (is : List Step) (env : List ℕ) (s s₁ : State) → After s s₁ → AllLabels (labels s) env
+        → (AllLabels (labels s₁) env → Holds s₁ → After s₁ (exec L o fn r w k vs body is env s₁)) → After s (exec L o fn r w k vs body is env s₁)
+    onward is env s s₁ a b f = then-after s s₁ _ a (f (more-labels (labels s) (labels s₁) (a .more) env b) (a .holds))
 
-    act-more : (x : Step) (env : List ℕ) (s : State) → labels s ≤ labels (act t o fn r w k vs body x env s)
-    unfolding outward nested
-    act-more (say c x) env s = emit-more _ s
-    act-more (put c p v) env s = emit-more _ s
-    act-more take env s = bump-more s
-    act-more (place j) env s = emit-more _ s
-    act-more (jump x j) env s = emit-more _ s
-    act-more (back j) env s = emit-more _ s
-    act-more (visit y a j) env s = keeping-keeps y (vs a j) (child-keeps a j) .more s
-    act-more (enter x j) env s = begin-more i _ s
-    act-more leave env s = finish-more s
-    act-more (exit x) env s = way-more r w x (loops s) s
-    act-more bar env s = barred-keeps w (is-do fn) .more s
-    act-more (seek u p) env s = sought-keeps r u _ (look t fn u (spot-at (tree r w k none) p)) (look-near fn u (spot-at (tree r w k none) p)) .more s
-    act-more (stop x) env s = halt-more _ s
-    act-more inner env s = omega arith
+    -- with labels env taken before
+    exec-after : (is : List Step) → T (tame limit is) → (env : List ℕ) (s : State) → AllLabels (labels s) env → Holds s
+        → After s (exec L o fn r w k vs body is env s)
+    unfolding exec tame outward
+    exec-after [] q env s b h = stay s h
+    exec-after (push-op c x ∷ is) q env s b h =
+        let p = and-r (no-name c) _ q in
+        onward is env s _ (emit-keeps r (Do c x) s (operand-few x (and-l (held-by limit x) _ p)) h) b (exec-after is (and-r (held-by limit x) _ p) env _)
+    exec-after (push-const c p v ∷ is) q env s b h = onward is env s _ (emit-keeps _ (Loads c v) s tt h) b (exec-after is (and-r (no-function v) _ q) env _)
+    exec-after (get-label ∷ is) q env s b h =
+        let a = bump-keeps s h in
+        then-after s (bump s) _ a
+        (exec-after is q (env ++ (labels s ∷ [])) (bump s) (labels-one _ (labels s) env (more-labels (labels s) _ (a .more) env b) (a .more)) (a .holds))
+    exec-after (place j ∷ is) q env s b h = onward is env s _ (emit-keeps r (Label (getD env j 0)) s (label-at (labels s) env j b) h) b (exec-after is q env _)
+    exec-after (jump x j ∷ is) q env s b h = onward is env s _ (emit-keeps r (To x (getD env j 0)) s (label-at (labels s) env j b) h) b (exec-after is q env _)
+    exec-after (jump-back j ∷ is) q env s b h = onward is env s _ (emit-keeps r (Back (getD env j 0)) s (label-at (labels s) env j b) h) b (exec-after is q env _)
+    exec-after (visit y a j ∷ is) q env s b h = onward is env s _ (keeping-keeps y (vs a j) (child-keeps a j) s h) b (exec-after is q env _)
+    exec-after (begin-loop x j ∷ is) q env s b h =
+        onward is env s _ (begin-keeps i r (getD env x 0) (getD env j 0) s (label-at (labels s) env x b) (label-at (labels s) env j b) h) b (exec-after is q env _)
+    exec-after (end-loop ∷ is) q env s b h = onward is env s _ (finish-keeps s h) b (exec-after is q env _)
+    exec-after (exit x ∷ is) q env s b h = onward is env s _ (way-keeps r w x (loops s) s (h .opens) h) b (exec-after is q env _)
+    exec-after (check-return ∷ is) q env s b h = onward is env s _ (barred-keeps w (is-do fn) s h) b (exec-after is q env _)
+    exec-after (access u p ∷ is) q env s b h =
+        let x = spot-at (tree r w k none) p in
+        onward is env s _ (sought-keeps r u (number-of x) (L fn u x) (noted-near ns u (number-of x)) s h) b (exec-after is q env _)
+    exec-after (refuse x ∷ is) q env s b h = onward is env s _ (halt-keeps _ s h) b (exec-after is q env _)
+    exec-after (inner ∷ is) q env s b h = absurd q
 
-    named-labels : (x : Step) (env : List ℕ) (n l : ℕ) → AllLabels n env → l ≤ n → AllLabels n (named t o fn r w k vs body x env l)
-    named-labels (say c x) env n l b h = b
-    named-labels (put c p v) env n l b h = b
-    named-labels take env n l b h = labels-one n l env b h
-    named-labels (place j) env n l b h = b
-    named-labels (jump x j) env n l b h = b
-    named-labels (back j) env n l b h = b
-    named-labels (visit y a j) env n l b h = b
-    named-labels (enter x j) env n l b h = b
-    named-labels leave env n l b h = b
-    named-labels (exit x) env n l b h = b
-    named-labels bar env n l b h = b
-    named-labels (seek u p) env n l b h = b
-    named-labels (stop x) env n l b h = b
-    named-labels inner env n l b h = b
+    exec-keeps : (is : List Step) → T (tame limit is) → Keeps (exec L o fn r w k vs body is [])
+    exec-keeps is q s h = exec-after is q [] s tt h
 
-    rest-small : (x : Step) (is : List Step) → T (small (x ∷ is)) → T (small is)
-    unfolding small
-    rest-small (say c x) is q = and-r (leb x limit) (small is) q
-    rest-small (put c p v) is q = q
-    rest-small take is q = q
-    rest-small (place j) is q = q
-    rest-small (jump x j) is q = q
-    rest-small (back j) is q = q
-    rest-small (visit y a j) is q = q
-    rest-small (enter x j) is q = q
-    rest-small leave is q = q
-    rest-small (exit x) is q = q
-    rest-small bar is q = q
-    rest-small (seek u p) is q = q
-    rest-small (stop x) is q = q
-    rest-small inner is q = q
-
-    exec-holds : (is : List Step) (env : List ℕ) (s : State) → T (small is) → AllLabels (labels s) env → Holds s
-        → Holds (exec t o fn r w k vs body is env s)
+    none-keeps : Keeps (exec L o fn r w k vs body [] [])
     unfolding exec
-    exec-holds [] env s q b h = h
-    exec-holds (x ∷ is) env s q b h =
-        let s′ = act t o fn r w k vs body x env s in
-        let m = act-more x env s in
-        exec-holds is (named t o fn r w k vs body x env (labels s)) s′ (rest-small x is q)
-        (more-labels (labels s) (labels s′) m (named t o fn r w k vs body x env (labels s)) (named-labels x env (labels s) (labels s) b (omega arith)))
-        (act-holds x is env s q b h)
+    none-keeps s h = stay s h
 
-    exec-more : (is : List Step) (env : List ℕ) (s : State) → labels s ≤ labels (exec t o fn r w k vs body is env s)
-    unfolding exec
-    exec-more [] env s = omega arith
-    exec-more (x ∷ is) env s =
-        let s′ = act t o fn r w k vs body x env s in
-        omega (arith, act-more x env s, exec-more is (named t o fn r w k vs body x env (labels s)) s′)
+    -- a Function's steps: no function inside is run
+    function-keeps : (ks : Nodes) → Keeps (exec L o fn r w k vs body (function-steps w ks) [])
+    unfolding exec nested
+    function-keeps ks s h = go (is-do w)
+      where
+        a : After s (emit (mark r (Loads LoadConst (function (w .p)))) s)
+        a = emit-keeps r (Loads LoadConst (function (w .p))) s tt h
 
-    exec-keeps : (is : List Step) → T (small is) → Keeps (exec t o fn r w k vs body is [])
-    exec-keeps is q = record { holds = λ s h. exec-holds is [] s q tt h; more = λ s. exec-more is [] s }
+        go : (b : Bool) → After s
+            (exec L o fn r w k vs body (cond b (inner ∷ load (function (w .p)) ∷ push-op Call 0 ∷ []) (inner ∷ load (function (w .p)) ∷ [])) [] s)
+        go true = then-after s _ _ a (emit-keeps r (Do Call 0) _ (omega arith) (a .holds))
+        go false = a
 
   abbrev Kept : ℕ → Words → Forest → Type 0
-  Kept r w k = Modest w (own-tree k) → AllModest k → (a : Role) (fn : Words) → Keeps (visit-of t o r w k a fn)
+  Kept r w k = Modest limit w (own-tree k) → AllModest k → (a : Role) (fn : Words) → Keeps (visit-of L o r w k a fn)
 
-  children-keep : (k : Forest) → Each Kept k → AllModest k → (fn : Words) (a : Role) (j : ℕ) → Keeps (child-visit (visits-of t o k) fn a j)
-  children-keep none h g fn a j = record { holds = λ s h. h; more = λ s. omega arith }
+  children-keep : (k : Forest) → Each Kept k → AllModest k → (fn : Words) (a : Role) (j : ℕ) → Keeps (child-visit (visits-of L o k) fn a j)
+  children-keep none h g fn a j = stay
   children-keep (tree r w k s) (h, hs) (q, g, gs) fn a zero = h q g a fn
   children-keep (tree r w k s) (h, hs) (q, g, gs) fn a (suc j) = children-keep s hs gs fn a j
 
   kept-step : (r : ℕ) (w : Words) (k : Forest) → Each Kept k → Kept r w k
-  kept-step r w k h q g a fn =
-      exec-keeps fn r w k (child-visit (visits-of t o k) fn) (stream t o r w k (visits-of t o k)) (children-keep k h g fn) (steps a w (own-tree k))
-      (steps-small a w (own-tree k) q)
+  kept-step r w k h q g a fn = go (is-function w) refl
+    where
+      vs : Role → ℕ → State → State
+      vs = child-visit (visits-of L o k) fn
 
-  stream-keeps : (r : ℕ) (w : Words) (k : Forest) → AllModest k → Keeps (stream t o r w k (visits-of t o k))
+      body : State → State
+      body = stream L o r w k (visits-of L o k)
+
+      go : (b : Bool) → is-function w ≡ b → Keeps (visit-of L o r w k a fn)
+      go true f =
+          function-only (λ is. Keeps (exec L o fn r w k vs body is [])) sc a w (own-tree k) (eqb-true (w .kind) 30 f)
+          (none-keeps fn r w k vs body (children-keep k h g fn)) (function-keeps fn r w k vs body (children-keep k h g fn) (own-tree k))
+      go false n =
+          exec-keeps fn r w k vs body (children-keep k h g fn) (steps sc a w (own-tree k)) (steps-tame limit sc a w (own-tree k) (eqb-false (w .kind) 30 n) q)
+
+  stream-keeps : (r : ℕ) (w : Words) (k : Forest) → AllModest k → Keeps (stream L o r w k (visits-of L o k))
   unfolding stream
   stream-keeps r w k g =
-      exec-keeps w r w k (child-visit (visits-of t o k) w) idle (children-keep k (each Kept kept-step k) g w) (stream-steps w) (stream-small w)
+      exec-keeps w r w k (child-visit (visits-of L o k) w) idle (children-keep k (each Kept kept-step k) g w) (stream-steps w) (stream-tame limit w)
 
   bound-small : (n : ℕ) → n ≤ limit → (ms : List Mark) → AllBound n ms → AllSmall ms
   bound-small n h [] b = tt
@@ -400,15 +377,15 @@ module _ (t : Semantic) (few : length (t .members) ≤ limit) (i : ℕ) where
   bound-small n h (mark r (To x l) ∷ ms) (p, b) = (omega arith, bound-small n h ms b)
   bound-small n h (mark r (Back l) ∷ ms) (p, b) = (omega arith, bound-small n h ms b)
   bound-small n h (mark r (Leave x l) ∷ ms) (p, b) = (omega arith, bound-small n h ms b)
-  bound-small n h (mark r (Load c v) ∷ ms) (p, b) = (tt, bound-small n h ms b)
+  bound-small n h (mark r (Loads c v) ∷ ms) (p, b) = (tt, bound-small n h ms b)
   bound-small n h (mark r (Do c x) ∷ ms) (p, b) = (p, bound-small n h ms b)
 
   -- one function by itself: as many labels as a word holds, so all its operands
-  pub alone-small : (r : ℕ) (w : Words) (k : Forest) → AllModest k → labels (alone t o r w k) ≤ limit → AllSmall (marks (alone t o r w k))
+  pub alone-small : (r : ℕ) (w : Words) (k : Forest) → AllModest k → labels (alone L o r w k) ≤ limit → AllSmall (marks (alone L o r w k))
   unfolding alone
   alone-small r w k g h =
-      bound-small (labels (alone t o r w k)) h (marks (alone t o r w k))
-      (stream-keeps r w k g .holds (anew (record { errors = []; met = 0; streams = [] })) (record { markers = tt; opens = tt }) .markers)
+      bound-small (labels (alone L o r w k)) h (marks (alone L o r w k))
+      (stream-keeps r w k g (anew (record { errors = []; met = 0; streams = [] })) (record { markers = tt; opens = tt }) .holds .markers)
 
 -- ---- every record of a tree that is lent in words
 
@@ -430,11 +407,11 @@ module _ (recs : List ℕ) (held : (j : ℕ) → getD recs j 0 ≤ limit) where
     all-modest s gs (omega arith),
   )
 
-  modest-below : (f : Forest) → Genuine recs f → AllModest f → Everywhere (λ r. AllModest (children recs r)) f
+  modest-below : (f : Forest) → Genuine recs f → AllModest f → Everywhere (λ r w. AllModest (children recs r)) f
   modest-below none g h = tt
   modest-below (tree r w k s) (e, d, g, gs) (q, h, hs) = (subst AllModest d h, modest-below k g h, modest-below s gs hs)
 
-  pub root-modest : count (root recs) ≤ limit → Everywhere (λ r. AllModest (children recs r)) (root recs)
+  pub root-modest : count (root recs) ≤ limit → Everywhere (λ r w. AllModest (children recs r)) (root recs)
   root-modest h =
       let g : Genuine recs (root recs) = (refl, refl, genuine recs (first recs 0), tt) in
       modest-below (root recs) g (all-modest (root recs) g h)

@@ -1,4 +1,4 @@
--- Words laid over the front of others: one part after another, and words stored behind those laid before. Assumes nothing.
+-- Words laid over the front of others: some after others, and words stored behind those laid before. Assumes nothing.
 use mathlib.Core.Path.{_≡_, refl, sym, ap, _∙_}
 use mathlib.Core.List.{List, [], _∷_, _++_, append-assoc}
 use Prim.Native.Nat.{ℕ, suc, _+_, _≤_, _<_}
@@ -16,14 +16,14 @@ over-front xs ws = take-at xs (drop (length xs) ws) (length xs) refl
 pub over-rest : (xs ws : List ℕ) → drop (length xs) (over xs ws) ≡ drop (length xs) ws
 over-rest xs ws = drop-at xs (drop (length xs) ws) (length xs) refl
 
--- a part laid over the rest
+-- words laid over the rest
 over-more : (xs ys ws : List ℕ) → xs ++ over ys (drop (length xs) ws) ≡ over (xs ++ ys) ws
 over-more xs ys ws =
     ap (λ (l : List ℕ). xs ++ (ys ++ l)) (drop-drop (length ys) (length xs) ws ∙ ap (λ (n : ℕ). drop n ws) (sym (length-append xs ys)))
     ∙ sym (append-assoc xs ys (drop (length (xs ++ ys)) ws))
 
-pub over-part : (xs ys ws : List ℕ) (n : ℕ) → n ≡ length xs → take n (over xs ws) ++ over ys (drop n (over xs ws)) ≡ over (xs ++ ys) ws
-over-part xs ys ws n e =
+pub over-behind : (xs ys ws : List ℕ) (n : ℕ) → n ≡ length xs → take n (over xs ws) ++ over ys (drop n (over xs ws)) ≡ over (xs ++ ys) ws
+over-behind xs ys ws n e =
     ap (λ (m : ℕ). take m (over xs ws) ++ over ys (drop m (over xs ws))) e
     ∙ ap (λ (l : List ℕ). l ++ over ys (drop (length xs) (over xs ws))) (over-front xs ws)
     ∙ ap (λ (l : List ℕ). xs ++ over ys l) (over-rest xs ws) ∙ over-more xs ys ws

@@ -1,23 +1,28 @@
 -- The names of the functions met are the first of all functions' names. Assumes nothing.
 use mathlib.Core.Path.{_≡_, refl, sym, ap, ap₂, _∙_}
-use mathlib.Core.List.{List, [], _∷_, _++_, append-assoc, append-nil}
+use mathlib.Core.List.{List, [], _∷_, _++_}
 use Prim.Native.Nat.{ℕ, zero, suc, _+_, _-_, _*_, _≤_, _<_}
 use native.Mathlib.Omega.{arith}
 use lib.ListN.{length, take, length-take}
-use Rattle.tables.specs.Semantic.{pairs, shareStart}
-use Rattle.pool.specs.Names.{Semantic, Upvalue, Names, share-start, member-count, names, names-upto}
+use Rattle.tables.specs.Forest.{own-tree, children}
+use Rattle.tables.specs.Semantic.{pairs}
+use Rattle.tables.proofs.SemanticLaws.{start-mono}
+use Rattle.pool.specs.Names.{Semantic, semantic, Upvalue, Names, share-start, names, names-upto}
 use Rattle.pool.specs.NameWords.{plains, entries-of, all-entries, words-of, spanOf}
-use Rattle.pool.specs.declared.lookup.Span.{Span}
-use Rattle.pool.proofs.NameLayout.{words-length, words-append}
-use Rattle.pool.proofs.NameUpto.{names-more, entries-start}
-use Rattle.pool.proofs.NamesLaws.{names-made, names-members}
-use Rattle.rules.specs.Run.{side, run}
-use Rattle.rules.specs.Out.{plain-names, upvalue-words, name-words, each-function, out}
-use Rattle.codegen.specs.Call.{semantic, Sound, Prepared, Roomy, lists}
+use Rattle.pool.specs.declared.spans.Span.{Span}
+use Rattle.pool.proofs.EntryLaws.{words-length, words-append}
+use Rattle.pool.proofs.NameUpto.{entries-snoc, start-more, entries-start}
+use Rattle.pool.proofs.NamesLaws.{names-next, names-members}
+use Rattle.rules.specs.Run.{Stream, side, look}
+use Rattle.rules.specs.Out.{plain-names, upvalue-words, name-words, line-words, consts, loop-depth, each-function, out}
+use Rattle.codegen.specs.Call.{Sound, Roomy, lists}
 use Rattle.codegen.specs.Names.{name-count}
-use Rattle.codegen.specs.Listing.{metOf, first-of}
+use Rattle.codegen.specs.Walks.{ran}
+use Rattle.codegen.specs.Listing.{line-of, metOf, streamOf, first-of}
 use Rattle.codegen.proofs.SpaceLaws.{space-kept}
-use Rattle.codegen.proofs.ReadyLaws.{tables-kept, tables-bounds, few-functions, own-name}
+use Rattle.codegen.proofs.StreamsLaws.{all-same}
+use Rattle.codegen.proofs.ReadyLaws.{tables-kept, run-bounds, few-functions, own-name}
+use Rattle.codegen.proofs.PreparedLaws.{Named}
 
 -- the words of one function's names
 plain-same : (ss : List ℕ) → words-of (plains ss) ≡ plain-names ss
@@ -36,86 +41,83 @@ names-same n =
     ∙ ap₂ (λ (a b : List ℕ). a ++ b) (plain-same (n .locals))
     (words-append (plains (n .globals)) (n .upvalues) ∙ ap₂ (λ (a b : List ℕ). a ++ b) (plain-same (n .globals)) (upvalues-same (n .upvalues)))
 
-entries-append : (ns : List Names) (n : Names) → all-entries (ns ++ (n ∷ [])) ≡ all-entries ns ++ entries-of n
-unfolding all-entries
-entries-append [] n = append-nil (entries-of n)
-entries-append (m ∷ ns) n = ap (λ (l : List Upvalue). entries-of m ++ l) (entries-append ns n) ∙ sym (append-assoc (entries-of m) (all-entries ns) (entries-of n))
-
 -- one function more
 one-more : (t : Semantic) (m : ℕ) → words-of (all-entries (names-upto t (suc m))) ≡ words-of (all-entries (names-upto t m)) ++ name-words (names t m)
 one-more t m =
-    ap (λ (l : List Names). words-of (all-entries l)) (names-more t m ∙ ap (λ (n : Names). names-upto t m ++ (n ∷ [])) (sym (names-made t m)))
-    ∙ ap words-of (entries-append (names-upto t m) (names t m)) ∙ words-append (all-entries (names-upto t m)) (entries-of (names t m))
+    ap (λ (l : List Names). words-of (all-entries l)) (names-next t m)
+    ∙ ap words-of (entries-snoc (names-upto t m) (names t m)) ∙ words-append (all-entries (names-upto t m)) (entries-of (names t m))
     ∙ ap (λ (l : List ℕ). words-of (all-entries (names-upto t m)) ++ l) (names-same (names t m))
 
-names-written : (t : Semantic) (recs : List ℕ) (m : ℕ) → m ≤ metOf t recs
-    → first-of t recs (λ x. name-words (names t (x .number))) m ≡ words-of (all-entries (names-upto t m))
+names-written : (t : Semantic) (recs : List ℕ) (m : ℕ) → m ≤ metOf (ran t recs)
+    → first-of (ran t recs) (λ x. name-words (names t (x .number))) m ≡ words-of (all-entries (names-upto t m))
 unfolding each-function names-upto all-entries words-of
 names-written t recs zero h = refl
 names-written t recs (suc m) h =
-    ap₂ (λ (a b : List ℕ). a ++ b) (names-written t recs m (omega arith)) (ap (λ (f : ℕ). name-words (names t f)) (own-name t recs m (omega arith)))
+    ap₂ (λ (a b : List ℕ). a ++ b) (names-written t recs m (omega arith)) (ap (λ (f : ℕ). name-words (names t f)) (own-name (look t) recs m (omega arith)))
     ∙ sym (one-more t m)
 
 module _ (symbols references functions members recs : List ℕ) (sound : Sound symbols references functions members recs) where
   abbrev t : Semantic
   t = semantic symbols references functions members
 
-  starts-same : (n : ℕ) → share-start t n ≡ shareStart functions n
-  unfolding share-start shareStart
-  starts-same zero = refl
-  starts-same (suc n) = ap (λ (k : ℕ). k + member-count t n) (starts-same n)
-
   pub whole : share-start t (pairs functions) ≡ length members
-  whole = starts-same (pairs functions) ∙ tables-kept symbols references functions members recs sound .entries-right .counts-sum
-
-  starts-rise : (n k : ℕ) → share-start t n ≤ share-start t (k + n)
-  unfolding share-start
-  starts-rise n zero = let z : 0 + n ≡ n = omega arith in omega (arith, ap (share-start t) z)
-  starts-rise n (suc k) = let z : suc k + n ≡ suc (k + n) = omega arith in omega (arith, starts-rise n k, ap (share-start t) z)
+  whole = tables-kept symbols references functions members recs sound .entries-right .counts-sum
 
   pub share-most : (n : ℕ) → n ≤ pairs functions → share-start t n ≤ length members
-  share-most n h = let z : pairs functions - n + n ≡ pairs functions = omega arith in omega (arith, starts-rise n (pairs functions - n), ap (share-start t) z, whole)
+  share-most n h = omega (arith, start-mono functions n (pairs functions) h, whole)
 
-  pub some-met : 0 < metOf t recs
+  pub some-met : 0 < metOf (ran t recs)
   some-met =
       let k = tables-kept symbols references functions members recs sound in
       let e = k .number-own 0 (k .fits .records-some) (k .root-is-function) ∙ k .number-first in
-      omega (arith, tables-bounds symbols references functions members recs sound .some e)
+      omega (arith, run-bounds symbols references functions members recs sound (look t) .some e)
 
-  module _ (entries spans back : List ℕ) (p : Prepared t recs entries spans back) where
+  module _ (entries spans : List ℕ) (p : Named t entries spans) where
+    abbrev met : ℕ
+    met = metOf (ran t recs)
+
+    few : met ≤ pairs functions
+    few = few-functions symbols references functions members recs sound
+
     count-is : (n : ℕ) → 0 < n → n ≤ pairs functions → name-count spans n ≡ share-start t n * 3
-    unfolding share-start
     count-is zero h g = absurd (omega arith)
     count-is (suc n) h g =
         let z : suc n - 1 ≡ n = omega arith in
         let e = p .counted n (omega arith) in
         ap (λ (f : ℕ). (spanOf spans f .start + spanOf spans f .locals + spanOf spans f .globals + spanOf spans f .upvalues) * 3) z
-        ∙ ap (λ (s : Span). (s .start + s .locals + s .globals + s .upvalues) * 3) e ∙ omega (arith, names-members t whole n (omega arith))
+        ∙ ap (λ (s : Span). (s .start + s .locals + s .globals + s .upvalues) * 3) e ∙ omega (arith, names-members t whole n (omega arith), start-more t n)
 
-    met-count : name-count spans (metOf t recs) ≡ share-start t (metOf t recs) * 3
-    met-count = count-is (metOf t recs) some-met (few-functions symbols references functions members recs sound)
+    met-count : name-count spans met ≡ share-start t met * 3
+    met-count = count-is met some-met few
 
-    met-front : take (share-start t (metOf t recs) * 3) entries ≡ words-of (all-entries (names-upto t (metOf t recs)))
-    met-front = p .front (metOf t recs) (few-functions symbols references functions members recs sound)
+    met-front : take (share-start t met * 3) entries ≡ words-of (all-entries (names-upto t met))
+    met-front = p .front met few
 
     -- the words are there, and the names' output has room
-    pub count-inside : name-count spans (metOf t recs) ≤ length entries
+    pub count-inside : name-count spans met ≤ length entries
     count-inside =
-        let m = metOf t recs in
-        let f = few-functions symbols references functions members recs sound in
         omega (
           arith,
           met-count,
           ap length met-front,
-          length-take (share-start t m * 3) entries,
-          words-length (all-entries (names-upto t m)),
-          entries-start t whole m f,
+          length-take (share-start t met * 3) entries,
+          words-length (all-entries (names-upto t met)),
+          entries-start t whole met few,
         )
 
     pub count-fits : (markers constants names errors lines : List ℕ) → Roomy t recs (lists markers constants names errors lines)
-        → name-count spans (metOf t recs) ≤ length names
-    count-fits markers constants names errors lines r =
-        omega (arith, met-count, share-most (metOf t recs) (few-functions symbols references functions members recs sound), space-kept _ _ _ _ _ _ _ _ r .for-names)
+        → name-count spans met ≤ length names
+    count-fits markers constants names errors lines r = omega (arith, met-count, share-most met few, space-kept _ _ _ _ _ _ _ _ r .for-names)
 
-    pub names-copied : take (name-count spans (metOf t recs)) entries ≡ out t recs (side (run t recs)) .names-out
-    names-copied = ap (λ (k : ℕ). take k entries) met-count ∙ met-front ∙ sym (names-written t recs (metOf t recs) (omega arith))
+    pub names-copied : take (name-count spans met) entries ≡ out t recs (side (ran t recs)) .names-out
+    names-copied = ap (λ (k : ℕ). take k entries) met-count ∙ met-front ∙ sym (names-written t recs met (omega arith))
+
+    -- the lines count the names as the spans do
+    pub lines-same : first-of (ran t recs) (line-of recs spans) met ≡ first-of (ran t recs) (line-words t recs) met
+    lines-same =
+        all-same (ran t recs) (line-of recs spans) (line-words t recs) met
+        (λ m lt. at (streamOf (ran t recs) m) (omega (arith, own-name (look t) recs m lt, few)))
+      where
+        at : (x : Stream) → x .number < pairs functions → line-of recs spans x ≡ line-words t recs x
+        at x h = ap (λ (s : Span). length (x .marks) ∷ x .labels ∷ length (consts (x .marks)) ∷ s .locals ∷ s .globals ∷ s .upvalues
+            ∷ loop-depth (own-tree (children recs (x .at))) ∷ []) (p .counted (x .number) h)

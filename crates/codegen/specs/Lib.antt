@@ -1,9 +1,8 @@
-pub mod Back
-pub mod Call
-pub mod Demand
-pub mod Depth
-pub mod Listing
-pub mod Names
-pub mod Places
-pub mod Space
 pub mod Walks
+pub mod Space
+pub mod Depth
+pub mod Places
+pub mod Names
+pub mod Listing
+pub mod Demand
+pub mod Call

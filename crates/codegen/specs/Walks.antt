@@ -1,40 +1,53 @@
--- What a walk of the whole tree and a walk of one function leave. Definitions only.
+-- The run by the notes and by the lent tables, and what a walk leaves in the frame and the lent words. Definitions only.
 use mathlib.Core.Path.{_≡_}
 use mathlib.Core.Bool.{false}
 use mathlib.Core.List.{List}
-use Prim.Native.Nat.{ℕ, _<_}
-use lib.ListN.{length}
+use Prim.Native.Nat.{ℕ, _≤_}
+use lib.ListN.{length, take}
 use Rattle.tables.specs.Record.{words}
-use Rattle.tables.specs.Forest.{children}
+use Rattle.tables.specs.Forest.{children, root, levels}
 use Rattle.pool.specs.Names.{Semantic}
-use Rattle.rules.specs.declared.Flow.the-variants.{Go}
-use Rattle.rules.specs.Run.{State, marks as marksOf, labels as labelsOf, flow as flowOf, side, run, alone}
-use Rattle.emit.specs.Sim.{limit, cap, met-cap, walk, outs, note, Room, Wrote}
-use Rattle.emit.specs.declared.run.Run.{Run}
+use Rattle.rules.specs.declared.StackCode.{StackCode}
+use Rattle.rules.specs.declared.StackCode.the-variants.{Code1}
+use Rattle.rules.specs.Run.{State, marks as marksOf, labels as labelsOf, flow as flowOf, side as sideOf, look, run, alone}
+use Rattle.emit.specs.Words.{cap, MARKERS, LABELS, CONSTS, ERRORS, FUNCTIONS, KEPT, SIZE, at, flowIn, cap-flow}
+use Rattle.emit.specs.Rep.{outs, lent, Room, Wrote, Scoped}
+use Rattle.emit.specs.Does.{noted-look}
 
--- the struct at a walk's start; every stream's constants begin with Null
-pub record Fresh (s : Run) (met : ℕ) : Type 0 where
-  pub at : s .at ≡ 0
-  pub labels : s .labels ≡ 0
-  pub depth : s .depth ≡ 0
-  pub flow : s .flow ≡ Go
-  pub errors : s .errors ≡ 0
-  pub functions : s .met ≡ met
-  pub count : s .count ≡ 1
+-- the stack code that is generated; request 11 of document 02 makes it an argument of the call
+abbrev pub stack-code : StackCode
+stack-code = Code1
 
--- the whole run, as a walk tells it: how it ends, how many functions it met and errors it kept; the errors' words are laid over the lent ones
-pub record Walked (t : Semantic) (recs out out′ : List ℕ) (s : Run) : Type 0 where
-  pub flow : s .flow ≡ flowOf (run t recs)
-  pub errors : s .errors ≡ cap (length (side (run t recs) .errors))
-  pub met : s .met ≡ met-cap (side (run t recs) .met)
-  pub words : length (side (run t recs) .errors) < limit → out′ ≡ note out (side (run t recs) .errors)
+-- the whole run, by the lent tables and by the notes made of them
+abbrev pub ran : Semantic → List ℕ → State
+ran t recs = run stack-code (look t) recs
 
--- the function at record r by itself, the newest 128 open loops kept
-abbrev pub single : Semantic → List ℕ → ℕ → State
-single t recs r = alone t (walk false) r (words recs r) (children recs r)
+abbrev pub noted-run : (ns recs : List ℕ) → State
+noted-run ns recs = run stack-code (noted-look ns) recs
+
+-- the function at record r by itself, by the notes, the newest 128 open loops kept
+abbrev pub single : (ns recs : List ℕ) → ℕ → State
+single ns recs r = alone (noted-look ns) (record { code = stack-code; nest = false; trim = take KEPT }) r (words recs r) (children recs r)
+
+-- what a walk rests on: a word can number the records, the notes name earlier siblings, and row 8
+pub record Walkable (ns recs : List ℕ) : Type 0 where
+  pub scoped : Scoped (lent recs ns)
+  pub shallow : levels (root recs) ≤ KEPT
+
+-- the words of a frame, as many as its type says
+abbrev pub Sized : List ℕ → Type 0
+Sized frame = length frame ≡ SIZE
+
+-- the frame tells how a run ended, how many functions it met and how many errors it kept
+pub record Walked (A : State) (frame : List ℕ) : Type 0 where
+  pub sized : Sized frame
+  pub flow : flowIn (at frame) ≡ cap-flow (flowOf A)
+  pub errors : at frame ERRORS ≡ cap (length (sideOf A .errors))
+  pub met : at frame FUNCTIONS ≡ cap (sideOf A .met)
 
 -- one function's stream: its markers and constants are laid where there is room, and counted
-pub record Streamed (recs : List ℕ) (A : State) (out cs out′ cs′ : List ℕ) (s : Run) : Type 0 where
-  pub wrote : Room (outs out cs) (marksOf A) → Wrote recs (outs out cs) (marksOf A) (outs out′ cs′) (s .count)
-  pub place : s .at ≡ cap (length (marksOf A))
-  pub labels : s .labels ≡ cap (labelsOf A)
+pub record Streamed (recs : List ℕ) (A : State) (code consts code′ consts′ frame : List ℕ) : Type 0 where
+  pub sized : Sized frame
+  pub wrote : Room (outs code consts) (marksOf A) → Wrote recs (outs code consts) (marksOf A) (outs code′ consts′) (at frame CONSTS)
+  pub place : at frame MARKERS ≡ cap (length (marksOf A))
+  pub labels : at frame LABELS ≡ cap (labelsOf A)

@@ -1,13 +1,14 @@
 // The generator's call.
-use crate::back::back;
 use crate::copied::name_words;
-use crate::depth::depths;
-use crate::listing::streams;
-use crate::places::places;
 use crate::space::space;
+use crate::streams::streams;
 use crate::walks::error_words;
-use crate::walks::whole;
-use pool::names::names;
+use crate::walks::judge;
+use emit::frame;
+use emit::frame::Frame;
+use pool::notes;
+use pool::notes::Notes;
+use pool::resolve::resolve;
 use rules::Flow;
 use tables::ast::size;
 use tables::check::rows;
@@ -17,9 +18,11 @@ use tables::refusal::Checked;
 use tables::refusal::Refusal;
 ghost use mathlib.Core.Path.{_≡_};
 ghost use lib.ListN.{length};
+ghost use Rattle.pool.specs.Names.{semantic};
 ghost use Rattle.pool.specs.NameWords.{over};
-ghost use Rattle.codegen.specs.Call.{semantic, lists, Prepared, Roomy, Ends, errorsOf, Sound, Answered, checkedOf, answerOf, outOf, Demanded};
-ghost use Rattle.codegen.specs.Listing.{Spaced, Streams, metOf};
+ghost use Rattle.codegen.specs.Walks.{noted-run, Walked};
+ghost use Rattle.codegen.specs.Listing.{Ready};
+ghost use Rattle.codegen.specs.Call.{lists, Roomy, Listable, Listed, Sound, Answered, checkedOf, answerOf, outOf, Demanded};
 
 // "An answer is a listing or a refusal, the refusal holding where it arose."
 pub enum Answer {
@@ -31,103 +34,31 @@ pub enum Answer {
     Refused(Refusal),
 }
 
-// The markers, constants and lines of the functions met.
-fn functions_met(
-    recs: &[u32],
-    symbols: &[u32],
-    references: &[u32],
-    functions: &[u32],
-    members: &[u32],
-    entries: &[u32],
-    spans: &[u32],
-    earlier: &[u32],
-    markers: &mut [u32],
-    constants: &mut [u32],
-    lines: &mut [u32],
-    met: usize,
-)
-    requires { ⌜ Prepared (semantic (now symbols) (now references) (now functions) (now members)) (now recs) (now entries) (now spans) (now earlier) ⌝ }
-    requires { ⌜ Ends (semantic (now symbols) (now references) (now functions) (now members)) (now recs) ⌝ }
-    requires { ⌜ Spaced (semantic (now symbols) (now references) (now functions) (now members)) (now recs) (now markers) (now constants) (now lines) ⌝ }
-    requires { ⌜ met ≡ metOf (semantic (now symbols) (now references) (now functions) (now members)) (now recs) ⌝ }
-    ensures { λ _. ⌜ Streams (semantic (now (symbols .entry)) (now (references .entry)) (now (functions .entry)) (now (members .entry))) (now (recs .entry))
-        (now (markers .entry)) (now (markers .exit)) (now (constants .entry)) (now (constants .exit)) (now (lines .entry)) (now (lines .exit)) ⌝ }
-{
-    let mut at = [0u32; 256];
-    places(recs, &mut at);
-    let mut deep = [0u32; 4096];
-    depths(recs, &mut deep);
-    streams(
-        recs,
-        symbols,
-        references,
-        functions,
-        members,
-        entries,
-        spans,
-        earlier,
-        &at,
-        &deep,
-        markers,
-        constants,
-        lines,
-        met,
-    );
-}
-
-// The listing of a run that is not refused: all its words, and their numbers.
+// A run that is not refused, as the frame tells it: the words of the functions met, their names, and the errors.
 fn listed(
     recs: &[u32],
-    symbols: &[u32],
-    references: &[u32],
-    functions: &[u32],
-    members: &[u32],
+    notes: &Notes,
     entries: &[u32],
     spans: &[u32],
-    earlier: &[u32],
     markers: &mut [u32],
     constants: &mut [u32],
     named: &mut [u32],
     errors: &mut [u32],
     lines: &mut [u32],
-    met: usize,
-    count: usize,
+    frame: &mut Frame,
 ) -> Answer
-    requires { ⌜ Prepared (semantic (now symbols) (now references) (now functions) (now members)) (now recs) (now entries) (now spans) (now earlier) ⌝ }
-    requires { ⌜ Ends (semantic (now symbols) (now references) (now functions) (now members)) (now recs) ⌝ }
-    requires { ⌜ Roomy (semantic (now symbols) (now references) (now functions) (now members)) (now recs)
-        (lists (now markers) (now constants) (now named) (now errors) (now lines)) ⌝ }
-    requires { ⌜ met ≡ metOf (semantic (now symbols) (now references) (now functions) (now members)) (now recs) ⌝ }
-    requires { ⌜ count ≡ errorsOf (semantic (now symbols) (now references) (now functions) (now members)) (now recs) ⌝ }
-    ensures { λ a. ⌜ Answered (semantic (now (symbols .entry)) (now (references .entry)) (now (functions .entry)) (now (members .entry))) (now (recs .entry)) a
+    requires { ⌜ Ready (now notes) (now recs) ⌝ }
+    requires { ⌜ Walked (noted-run (now notes) (now recs)) (now frame) ⌝ }
+    requires { ⌜ Listable (noted-run (now notes) (now recs)) (now entries) (now spans) (lists (now markers) (now constants) (now named) (now errors) (now lines)) ⌝ }
+    ensures { λ a. ⌜ Listed (noted-run (now (notes .entry)) (now (recs .entry))) (now (recs .entry)) (now (entries .entry)) (now (spans .entry)) a
         (lists (now (markers .entry)) (now (constants .entry)) (now (named .entry)) (now (errors .entry)) (now (lines .entry)))
         (lists (now (markers .exit)) (now (constants .exit)) (now (named .exit)) (now (errors .exit)) (now (lines .exit))) ⌝ }
 {
-    functions_met(
-        recs,
-        symbols,
-        references,
-        functions,
-        members,
-        entries,
-        spans,
-        earlier,
-        markers,
-        constants,
-        lines,
-        met,
-    );
+    let met = frame::functions(frame) as usize;
+    let count = frame::errors(frame) as usize;
+    streams(recs, notes, spans, markers, constants, lines, frame, met);
     name_words(entries, spans, named, met);
-    error_words(
-        recs,
-        symbols,
-        references,
-        entries,
-        spans,
-        earlier,
-        errors,
-        count,
-    );
+    error_words(recs, notes, errors, frame, count);
     Answer::Listing {
         lines: met,
         errors: count,
@@ -135,63 +66,7 @@ fn listed(
     }
 }
 
-// The run is judged first: nothing is written unless it ends in a listing.
-fn judged(
-    recs: &[u32],
-    symbols: &[u32],
-    references: &[u32],
-    functions: &[u32],
-    members: &[u32],
-    entries: &[u32],
-    spans: &[u32],
-    earlier: &[u32],
-    markers: &mut [u32],
-    constants: &mut [u32],
-    named: &mut [u32],
-    errors: &mut [u32],
-    lines: &mut [u32],
-) -> Answer
-    requires { ⌜ Prepared (semantic (now symbols) (now references) (now functions) (now members)) (now recs) (now entries) (now spans) (now earlier) ⌝ }
-    requires { ⌜ Roomy (semantic (now symbols) (now references) (now functions) (now members)) (now recs)
-        (lists (now markers) (now constants) (now named) (now errors) (now lines)) ⌝ }
-    ensures { λ a. ⌜ Answered (semantic (now (symbols .entry)) (now (references .entry)) (now (functions .entry)) (now (members .entry))) (now (recs .entry)) a
-        (lists (now (markers .entry)) (now (constants .entry)) (now (named .entry)) (now (errors .entry)) (now (lines .entry)))
-        (lists (now (markers .exit)) (now (constants .exit)) (now (named .exit)) (now (errors .exit)) (now (lines .exit))) ⌝ }
-{
-    let mut none = [0u32; 0];
-    let st = whole(
-        recs,
-        symbols,
-        references,
-        entries,
-        spans,
-        earlier,
-        &mut none,
-    );
-    let f = st.flow;
-    if let Flow::Refused(rule, at) = f {
-        return Answer::Refused(Refusal::Run(rule, at));
-    }
-    listed(
-        recs,
-        symbols,
-        references,
-        functions,
-        members,
-        entries,
-        spans,
-        earlier,
-        markers,
-        constants,
-        named,
-        errors,
-        lines,
-        st.met,
-        st.errors,
-    )
-}
-
-// Tables that the rows accept: the names, each record's earlier sibling, then the run.
+// Tables that the rows accept: the names and notes, then the run, which is judged first: nothing is written unless it ends in a listing.
 fn accepted(
     recs: &[u32],
     symbols: &[u32],
@@ -213,23 +88,33 @@ fn accepted(
 {
     let mut entries = [0u32; 3072];
     let mut spans = [0u32; 1024];
-    names(symbols, functions, members, &mut entries, &mut spans);
-    let mut earlier = [0u32; 4096];
-    back(recs, &mut earlier);
-    judged(
+    let mut notes = [0u32; notes::SIZE];
+    resolve(
         recs,
         symbols,
         references,
         functions,
         members,
+        &mut entries,
+        &mut spans,
+        &mut notes,
+    );
+    let mut frame = [0u32; frame::SIZE];
+    judge(recs, &notes, &mut frame);
+    if let Flow::Refused(rule, r) = frame::flow(&frame) {
+        return Answer::Refused(Refusal::Run(rule, r));
+    }
+    listed(
+        recs,
+        &notes,
         &entries,
         &spans,
-        &earlier,
         markers,
         constants,
         named,
         errors,
         lines,
+        &mut frame,
     )
 }
 

@@ -1,5 +1,5 @@
 // The names of the functions met: they stand in front of the others'.
-use pool::lookup::span_of;
+use pool::spans::span_of;
 ghost use mathlib.Core.Path.{_≡_};
 ghost use Prim.Native.Nat.{_<_, _≤_};
 ghost use lib.ListN.{length, take};

@@ -1,10 +1,9 @@
-// The call: what it makes of the tables before the run, the space that it asks for, and the run.
-pub mod back;
+// The call: the space that it asks for, the walks of the tree, and the words of each function met.
 pub mod call;
-pub mod copied;
-pub mod depth;
+mod copied;
+mod depth;
 pub mod ffi;
-pub mod listing;
-pub mod places;
-pub mod space;
-pub mod walks;
+mod places;
+mod space;
+mod streams;
+mod walks;

@@ -14,7 +14,7 @@ fn scarce(each: usize, width: usize, n: usize, words: usize) -> bool
 }
 
 // The first output, by its number, that is too small; the outputs are given by their lengths in words.
-pub fn space(
+pub(crate) fn space(
     records: usize,
     members: usize,
     functions: usize,

@@ -311,7 +311,7 @@ fn add(consts: &mut [u32], n: usize, kind: u32, low: u32, high: u32) -> usize {
 }
 
 fn lit(consts: &mut [u32], n: usize, detail: u32, p: u32, q: u32) -> usize {
-    let w = pool::consts::lit_words(detail, p, q);
+    let w = pool::value::const_words(pool::value::lit_value(detail, p, q));
     add(consts, n, w.kind, w.low, w.high)
 }
 

@@ -12,8 +12,13 @@ use Rattle.rules.specs.declared.Flow.{Flow}
 use Rattle.rules.specs.declared.Flow.the-variants.{Go, Cut, Refused}
 use Rattle.rules.specs.Marker.{Mark}
 use Rattle.rules.specs.Run.{Loop, State, st, marks, labels, loops, opened, flow, side, emit, bump, halt, begin, finish, kept, nested}
-use Rattle.emit.specs.Sim.{limit, cap, more, met-limit, met-cap, more-met}
-use Rattle.emit.specs.Flows.{isGo}
+use Rattle.emit.specs.Words.{limit, cap, more, goes, is-cut, flowIn, cap-flow}
+use Rattle.emit.specs.Sinks.{going}
+
+abbrev pub isGo : Flow → Bool
+isGo Go = true
+isGo (Cut k a b) = false
+isGo (Refused x r) = false
 
 pub clash : true ≡ false → ⊥
 clash e = let z : _≡_ {A = ℕ} 0 1 = cc in omega arith
@@ -42,19 +47,6 @@ more-cap n = go (ltb (cap n) limit) refl
     go : (b : Bool) → ltb (cap n) limit ≡ b → cond b (cap n + 1) (cap n) ≡ cap (suc n)
     go true e = let h : cap n < limit = ltb-true (cap n) limit e in omega arith
     go false e = let h : limit ≤ cap n = ltb-false (cap n) limit e in omega arith
-
-pub more-met-cap : (n : ℕ) → more-met (met-cap n) ≡ met-cap (suc n)
-more-met-cap n = go (ltb (met-cap n) met-limit) refl
-  where
-    go : (b : Bool) → ltb (met-cap n) met-limit ≡ b → cond b (met-cap n + 1) (met-cap n) ≡ met-cap (suc n)
-    go true e = let h : met-cap n < met-limit = ltb-true (met-cap n) met-limit e in omega arith
-    go false e = let h : met-limit ≤ met-cap n = ltb-false (met-cap n) met-limit e in omega arith
-
-pub more-capped : (n m : ℕ) → cap n ≡ n → m ≡ more n → cap m ≡ m
-more-capped n m e q = ap (λ (k : ℕ). cap k) z ∙ omega arith ∙ sym z
-  where
-    z : m ≡ cap (suc n)
-    z = q ∙ ap more (sym e) ∙ more-cap n
 
 -- what does nothing to a state that does not go on
 abbrev pub Rests : (State → State) → Type 0
@@ -102,6 +94,3 @@ no-nested false r w v A q = refl
 no-nested true r w v (st m l ls os Go e) q = absurd (clash q)
 no-nested true r w v (st m l ls os (Cut k a b) e) q = refl
 no-nested true r w v (st m l ls os (Refused n x) e) q = refl
-
-pub cap-word : (n : ℕ) → n < 4294967296 → n ≡ cap n
-cap-word n h = omega arith

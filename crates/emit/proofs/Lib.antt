@@ -1,10 +1,12 @@
-pub mod Markers
 pub mod Basics
-pub mod StateLaws
+pub mod WordLaws
+pub mod SinkLaws
+pub mod RepLaws
+pub mod MarkLaws
 pub mod LoopLaws
-pub mod ErrorLaws
-pub mod FunctionLaws
-pub mod CodeLaws
+pub mod InsideLaws
+pub mod LeaveLaws
+pub mod BarLaws
 pub mod ConstLaws
 pub mod NameLaws
 pub mod VisitLaws

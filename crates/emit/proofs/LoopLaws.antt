@@ -1,142 +1,176 @@
--- The stack of open loops in an array of the newest. Assumes nothing.
-use mathlib.Core.Path.{_≡_, refl, sym, ap, _∙_}
-use mathlib.Core.Bool.{Bool, true, false}
+-- A loop opens: its label at its place, or all moved down by one. Assumes nothing.
+use mathlib.Core.Path.{_≡_, refl, sym, ap, ap₂, _∙_, subst, subst⁻¹}
+use mathlib.Core.Bool.{Bool, true, false, cond}
 use mathlib.Core.List.{List, [], _∷_}
-use Prim.Native.Nat.{ℕ, zero, suc, _+_, _-_, _≤_, _<_, min}
+use Prim.Native.Nat.{ℕ, zero, suc, _+_, _≤_, _<_, min}
 use native.Mathlib.Omega.{arith}
-use lib.ListN.{length, getD, set, take, length-take}
+use native.Mathlib.Numerals.{add-one}
+use lib.ListN.{length, set, take, length-set, length-take}
 use lib.Seq.{getD-set-same, getD-set-other}
-use lib.Dec.{eqb}
-use borrow.Author.Tests.{eqb-true, eqb-false}
-use Rattle.rules.specs.declared.Flow.the-variants.{Go}
-use Rattle.rules.specs.Run.{Loop, loop, st, marks, labels, loops, opened, flow, side, begin, finish, drop1}
-use Rattle.emit.specs.Sim.{Stack, Step, Begins}
-use Rattle.emit.specs.Flows.{isGo, Shifted}
-use Rattle.emit.specs.declared.run.Run.{Run}
-use Rattle.emit.proofs.Basics.{is-go, shape, no-begin, no-finish}
-use Rattle.emit.proofs.StateLaws.{given, goes, still}
+use lib.Dec.{eqb, ltb, lit<}
+use borrow.Author.Tests.{eqb-true, eqb-false, ltb-true, ltb-false}
+use Rattle.rules.specs.declared.Flow.the-variants.{Go, Cut, Refused}
+use Rattle.rules.specs.declared.StackCode.the-variants.{Code1, Code2}
+use Rattle.rules.specs.Run.{Loop, loop, State, st, marks, labels, loops, opened, flow, side, bump, begin}
+use Rattle.emit.specs.Words.{cap, MARKERS, LABELS, CONSTS, DEPTH, FLOW, WHY, FROM, TO, ERRORS, FUNCTIONS, NEST, FUNCTION, STACK, PAST, LOOPS, KEPT, SIZE, at, flowIn}
+use Rattle.emit.specs.Sinks.{shifted, opened as opening}
+use Rattle.emit.specs.Rep.{Outs, Walk, Flat, Stack, Reads, Rep}
+use Rattle.emit.proofs.Basics.{clash, shape, no-begin}
+use Rattle.emit.proofs.WordLaws.{same-stack}
+use Rattle.emit.proofs.RepLaws.{went, if-going}
 
--- a store above the stack leaves it
-above : (a : List ℕ) (ls : List Loop) (i x : ℕ) → length ls ≤ i → Stack a ls → Stack (set a i x) ls
-unfolding Stack
-above a [] i x le h = tt
-above a (loop o c b ∷ ls) i x le h = (getD-set-other a i (length ls) x 0 (λ e. omega arith) ∙ h .0, h .1, above a ls i x (omega arith) (h .2))
+-- ---- a frame that reads as another but for its loops
 
-all-taken : (n : ℕ) (ls : List Loop) → length ls ≤ n → take n ls ≡ ls
-all-taken zero [] le = refl
-all-taken zero (x ∷ ls) le = absurd (omega arith)
-all-taken (suc n) [] le = refl
-all-taken (suc n) (x ∷ ls) le = ap (λ (k : List Loop). x ∷ k) (all-taken n ls (omega arith))
+reloop : {c : Walk} {records : List ℕ} {o₀ o : Outs} {A : State} (ρ τ : ℕ → ℕ) (ls os : List Loop)
+    → ((j : ℕ) → j < LOOPS → (j ≡ DEPTH → ⊥) → τ j ≡ ρ j) → (c .nest ≡ false → Stack τ ls) → τ DEPTH ≡ length ls → length ls ≤ KEPT
+    → Reads c records o₀ A o ρ → Reads c records o₀ (st (marks A) (labels A) ls os (flow A) (side A)) o τ
+reloop {c} {records} {o₀} {o} {A} ρ τ ls os q s d le h = record {
+  flat = λ n. subst⁻¹ (λ (m : ℕ). Flat records o₀ (marks A) o m (τ CONSTS)) (is MARKERS (lit< tt) refl) (subst⁻¹ (λ (m : ℕ). Flat records o₀ (marks A) o (ρ MARKERS) m)
+      (is CONSTS (lit< tt) refl) (h .flat n));
+  noted = h .noted;
+  labels = is LABELS (lit< tt) refl ∙ h .labels;
+  loops = s;
+  depth = d;
+  deep = le;
+  flow = same-flow ∙ h .flow;
+  errors = is ERRORS (lit< tt) refl ∙ h .errors;
+  met = λ n. (is FUNCTIONS (lit< tt) refl ∙ h .met n .0, is PAST (lit< tt) refl ∙ h .met n .1);
+  nest = ap (λ (n : ℕ). eqb n 1) (is NEST (lit< tt) refl) ∙ h .nest;
+  function = is FUNCTION (lit< tt) refl ∙ h .function;
+  stack = ap (λ (n : ℕ). cond (eqb n 2) Code2 Code1) (is STACK (lit< tt) refl) ∙ h .stack;
+}
+  where
+    is : (j : ℕ) → j < LOOPS → eqb j DEPTH ≡ false → τ j ≡ ρ j
+    is j lt e = q j lt (eqb-false j DEPTH e)
+
+    same-flow : flowIn τ ≡ flowIn ρ
+    same-flow = rw (is FLOW (lit< tt) refl, is WHY (lit< tt) refl, is FROM (lit< tt) refl, is TO (lit< tt) refl)
+
+-- ---- the shift
+
+length-shifted : (n : ℕ) (w : List ℕ) → length (shifted n w) ≡ length w
+unfolding shifted
+length-shifted zero w = refl
+length-shifted (suc n) w = length-set (shifted n w) (LOOPS + n) (at (shifted n w) (LOOPS + (n + 1))) ∙ length-shifted n w
+
+shifted-low : (n : ℕ) (w : List ℕ) (j : ℕ) → j < LOOPS → at (shifted n w) j ≡ at w j
+unfolding shifted
+shifted-low zero w j lt = refl
+shifted-low (suc n) w j lt = getD-set-other (shifted n w) (LOOPS + n) j _ 0 (λ (e : j ≡ LOOPS + n). omega arith) ∙ shifted-low n w j lt
+
+shifted-rest : (n : ℕ) (w : List ℕ) (i : ℕ) → n ≤ i → at (shifted n w) (LOOPS + i) ≡ at w (LOOPS + i)
+unfolding shifted
+shifted-rest zero w i le = refl
+shifted-rest (suc n) w i le = getD-set-other (shifted n w) (LOOPS + n) (LOOPS + i) _ 0 (λ (e : LOOPS + i ≡ LOOPS + n). omega arith) ∙ shifted-rest n w i (omega arith)
+
+shifted-at : (n : ℕ) (w : List ℕ) (i : ℕ) → i < n → LOOPS + n ≤ length w → at (shifted n w) (LOOPS + i) ≡ at w (LOOPS + (i + 1))
+unfolding shifted
+shifted-at zero w i lt le = absurd (omega arith)
+shifted-at (suc n) w i lt le = by (eqb i n) refl (λ z. shifted-at n w i z (omega arith))
+  where
+    u : List ℕ
+    u = shifted n w
+
+    by : (b : Bool) → eqb i n ≡ b → (i < n → at u (LOOPS + i) ≡ at w (LOOPS + (i + 1)))
+        → at (set u (LOOPS + n) (at u (LOOPS + (n + 1)))) (LOOPS + i) ≡ at w (LOOPS + (i + 1))
+    by true e k =
+        let q : i ≡ n = eqb-true i n e in
+        let lt′ : LOOPS + n < length u = omega (arith, length-shifted n w) in
+        ap (λ (j : ℕ). at (set u (LOOPS + n) (at u (LOOPS + (n + 1)))) (LOOPS + j)) q ∙ getD-set-same u (LOOPS + n) _ 0 lt′
+        ∙ shifted-rest n w (n + 1) (omega arith) ∙ ap (λ (j : ℕ). at w (LOOPS + (j + 1))) (sym q)
+    by false e k =
+        let q : i ≡ n → ⊥ = eqb-false i n e in
+        getD-set-other u (LOOPS + n) (LOOPS + i) _ 0 (λ (z : LOOPS + i ≡ LOOPS + n). q (omega arith)) ∙ k (omega arith)
 
 -- each label one place further down, without the oldest
-shifted : (a b : List ℕ) (n : ℕ) (ls : List Loop) → length ls ≡ suc n → ((i : ℕ) → i < n → getD b i 0 ≡ getD a (i + 1) 0) → Stack a ls → Stack b (take n ls)
+shifted-stack : (ρ τ : ℕ → ℕ) (n : ℕ) (ls : List Loop) → length ls ≡ suc n → ((i : ℕ) → i < n → τ (LOOPS + i) ≡ ρ (LOOPS + (i + 1))) → Stack ρ ls → Stack τ (take n ls)
 unfolding Stack
-shifted a b zero ls e q h = tt
-shifted a b (suc n) [] e q h = tt
-shifted a b (suc n) (loop o c d ∷ ls) e q h =
+shifted-stack ρ τ zero ls e q h = tt
+shifted-stack ρ τ (suc n) [] e q h = tt
+shifted-stack ρ τ (suc n) (loop o c d ∷ ls) e q h =
     let k : length (take n ls) ≡ n = omega (arith, length-take n ls) in
     let i : n + 1 ≡ length ls = omega arith in
-    (ap (λ (j : ℕ). getD b j 0) k ∙ q n (omega arith) ∙ ap (λ (j : ℕ). getD a j 0) i ∙ h .0, h .1, shifted a b n ls (omega arith) (λ j lt. q j (omega arith)) (h .2))
+    (ap (λ (j : ℕ). τ (LOOPS + j)) k ∙ q n (omega arith) ∙ ap (λ (j : ℕ). ρ (LOOPS + j)) i ∙ h .0, h .1, shifted-stack ρ τ n ls (omega arith) (λ j lt. q j (omega arith)) (h .2))
 
--- one place more of the shift
-pub shift-more : (a b : List ℕ) (i x : ℕ) → i < length b → x ≡ getD a (i + 1) 0 → ((j : ℕ) → j < i → getD b j 0 ≡ getD a (j + 1) 0)
-    → (j : ℕ) → j < i + 1 → getD (set b i x) j 0 ≡ getD a (j + 1) 0
-shift-more a b i x lt e q j less = go (eqb j i) refl
-  where
-    go : (d : Bool) → eqb j i ≡ d → getD (set b i x) j 0 ≡ getD a (j + 1) 0
-    go true z =
-        let k : j ≡ i = eqb-true j i z in
-        ap (λ (n : ℕ). getD (set b i x) n 0) k ∙ getD-set-same b i x 0 lt ∙ e ∙ ap (λ (n : ℕ). getD a (n + 1) 0) (sym k)
-    go false z = let k : j ≡ i → ⊥ = eqb-false j i z in getD-set-other b i j x 0 k ∙ q j (omega arith)
+all-taken : (n : ℕ) (ls : List Loop) → length ls ≤ n → take n ls ≡ ls
+all-taken zero [] h = refl
+all-taken zero (l ∷ ls) h = absurd (omega arith)
+all-taken (suc n) [] h = refl
+all-taken (suc n) (l ∷ ls) h = ap (λ (k : List Loop). l ∷ k) (all-taken n ls (omega arith))
 
-pub loop-still : (s : Run) (w : ℕ) → isGo (s .flow) ≡ false → Begins s s w
-loop-still s w n = record { begins = λ r c e. still (begin (take 128) (loop r c (suc c))) (no-begin (take 128) (loop r c (suc c))) s n }
+-- ---- begin_loop
 
--- the struct with its loops and their number
-abbrev pub with-loops : Run → List ℕ → ℕ → Run
-with-loops s a d = record { at = s .at; labels = s .labels; loops = a; depth = d; flow = s .flow; errors = s .errors; met = s .met; count = s .count }
+module _ {c : Walk} {records : List ℕ} {o₀ o : Outs} {A : State} (r k : ℕ) (l : ℕ) (w : List ℕ) (q : l ≡ cap k) (h : Rep c records o₀ A o w) where
+  x : Loop
+  x = loop r k (suc k)
 
-pub loop-goes : (s : Run) (w : ℕ) → isGo (s .flow) ≡ true → s .depth < 128 → length (s .loops) ≡ 128
-    → Begins s (with-loops s (set (s .loops) (s .depth) w) (s .depth + 1)) w
-unfolding begin Stack
-loop-goes s w g lt len = record {
-  begins = λ r c e. record {
-    step = λ records nest o₀ A o h.
-        let x = loop r c (suc c) in
-        let d : s .depth ≡ length (loops A) = h .depth in
-        let t : take 128 (x ∷ loops A) ≡ x ∷ loops A = all-taken 128 (x ∷ loops A) (omega arith) in
-        given (ap (begin (take 128) x) (shape A (goes h g)) ∙ ap (λ (k : List Loop). st (marks A) (labels A) k (x ∷ opened A) Go (side A)) t) (record {
-          flat = h .flat;
-          noted = h .noted;
-          labels = h .labels;
-          loops = (
-            ap (λ (j : ℕ). getD (set (s .loops) (s .depth) w) j 0) (sym d) ∙ getD-set-same (s .loops) (s .depth) w 0 (omega arith) ∙ e,
-            refl,
-            above (s .loops) (loops A) (s .depth) w (omega arith) (h .loops),
-          );
-          depth = omega arith;
-          deep = omega arith;
-          flow = is-go (s .flow) g;
-          errors = h .errors;
-          met = h .met;
-        });
-  };
-}
+  Opened : List ℕ → List Loop → Type 0
+  Opened u ls = Rep c records o₀ (st (marks A) (labels A) ls (x ∷ opened A) (flow A) (side A)) o u
 
--- as many as are kept stand open: the oldest is dropped
-pub loop-full : (s : Run) (b : List ℕ) (w : ℕ) → isGo (s .flow) ≡ true → 128 ≤ s .depth → length b ≡ 128 → Shifted (s .loops) b
-    → Begins s (with-loops s (set b 127 w) (s .depth)) w
-unfolding begin Stack
-loop-full s b w g le len q = record {
-  begins = λ r c e. record {
-    step = λ records nest o₀ A o h.
-        let d : s .depth ≡ length (loops A) = h .depth in
-        let n : length (loops A) ≡ 128 = omega (arith, h .deep) in
-        let k : length (take 127 (loops A)) ≡ 127 = omega (arith, length-take 127 (loops A)) in
-        given (ap (begin (take 128) (loop r c (suc c))) (shape A (goes h g))) (record {
-          flat = h .flat;
-          noted = h .noted;
-          labels = h .labels;
-          loops = (
-            ap (λ (j : ℕ). getD (set b 127 w) j 0) k ∙ getD-set-same b 127 w 0 (omega arith) ∙ e,
-            refl,
-            above b (take 127 (loops A)) 127 w (omega arith) (shifted (s .loops) b 127 (loops A) n q (h .loops)),
-          );
-          depth = omega (arith, d, n, k);
-          deep = omega (arith, k);
-          flow = is-go (s .flow) g;
-          errors = h .errors;
-          met = h .met;
-        });
-  };
-}
+  -- there is a place
+  one-more : at w DEPTH < KEPT → Opened (set (set w (LOOPS + at w DEPTH) l) DEPTH (at w DEPTH + 1)) (x ∷ loops A)
+  unfolding x Opened Stack
+  one-more lt =
+      let d : at w DEPTH ≡ length (loops A) = h .reads .depth in
+      let n : length w ≡ 144 = h .size in
+      let u = set w (LOOPS + at w DEPTH) l in
+      let v = set u DEPTH (at w DEPTH + 1) in
+      let nu : length u ≡ 144 = length-set w (LOOPS + at w DEPTH) l ∙ n in
+      let high : (i : ℕ) → at v (LOOPS + i) ≡ at u (LOOPS + i) = λ i. getD-set-other u DEPTH (LOOPS + i) _ 0 (λ (z : LOOPS + i ≡ DEPTH). omega arith) in
+      record {
+        size = length-set u DEPTH (at w DEPTH + 1) ∙ nu;
+        reads = reloop (at w) (at v) (x ∷ loops A) (x ∷ opened A)
+            (λ j jl ne. getD-set-other u DEPTH j _ 0 ne ∙ getD-set-other w (LOOPS + at w DEPTH) j l 0 (λ (z : j ≡ LOOPS + at w DEPTH). omega arith))
+            (λ f. (
+              ap (λ (j : ℕ). at v (LOOPS + j)) (sym d) ∙ high (at w DEPTH) ∙ getD-set-same w (LOOPS + at w DEPTH) l 0 (omega arith) ∙ q,
+              refl,
+              same-stack (at w) (at v) (loops A) (λ i il. high i ∙ getD-set-other w (LOOPS + at w DEPTH) (LOOPS + i) l 0 (λ (z : LOOPS + i ≡ LOOPS + at w DEPTH). omega
+                  arith)) (h .reads .loops f),
+            ))
+            (getD-set-same u DEPTH _ 0 (omega arith) ∙ add-one (at w DEPTH) ∙ ap suc d) (omega arith) (h .reads);
+      }
 
-drop-length : (ls : List Loop) → length (drop1 ls) ≡ length ls - 1
-drop-length [] = refl
-drop-length (l ∷ ls) = omega arith
+  -- as many as are kept stand open: the oldest is dropped
+  moved-down : KEPT ≤ at w DEPTH → Opened (set (shifted 127 w) 143 l) (x ∷ take 127 (loops A))
+  unfolding x Opened Stack
+  moved-down le =
+      let d : at w DEPTH ≡ length (loops A) = h .reads .depth in
+      let n : length w ≡ 144 = h .size in
+      let m : length (loops A) ≡ 128 = omega (arith, h .reads .deep) in
+      let u = shifted 127 w in
+      let v = set u 143 l in
+      let nu : length u ≡ 144 = length-shifted 127 w ∙ n in
+      let t : length (take 127 (loops A)) ≡ 127 = omega (arith, length-take 127 (loops A)) in
+      record {
+        size = length-set u 143 l ∙ nu;
+        reads = reloop (at w) (at v) (x ∷ take 127 (loops A)) (x ∷ opened A)
+            (λ j jl ne. getD-set-other u 143 j l 0 (λ (z : j ≡ 143). omega arith) ∙ shifted-low 127 w j jl)
+            (λ f. (
+              ap (λ (j : ℕ). at v (LOOPS + j)) t ∙ getD-set-same u 143 l 0 (omega arith) ∙ q,
+              refl,
+              shifted-stack (at w) (at v) 127 (loops A) m (λ i il. getD-set-other u 143 (LOOPS + i) l 0 (λ (z : LOOPS + i ≡ 143). omega arith) ∙ shifted-at 127 w i il
+                  (omega arith)) (h .reads .loops f),
+            ))
+            (getD-set-other u 143 DEPTH l 0 (eqb-false _ _ refl) ∙ shifted-low 127 w DEPTH (lit< tt) ∙ d ∙ m ∙ ap suc (sym t)) (omega (arith, t)) (h .reads);
+      }
 
-drop-stack : (a : List ℕ) (ls : List Loop) → Stack a ls → Stack a (drop1 ls)
-unfolding Stack
-drop-stack a [] h = tt
-drop-stack a (loop o c b ∷ ls) h = h .2
+  pub begun : {w′ : List ℕ} → w′ ≡ opening l w → Rep c records o₀ (begin (take KEPT) (loop r k (suc k)) A) o w′
+  unfolding opening begin x Opened
+  begun e = if-going (no-begin (take KEPT) x) e h (λ g. by (ltb (at w DEPTH) KEPT) refl (went h g))
+    where
+      by : (b : Bool) → ltb (at w DEPTH) KEPT ≡ b → flow A ≡ Go
+          → Rep c records o₀ (st (marks A) (labels A) (take KEPT (x ∷ loops A)) (x ∷ opened A) Go (side A)) o
+          (cond b (set (set w (LOOPS + at w DEPTH) l) DEPTH (at w DEPTH + 1)) (set (shifted 127 w) 143 l))
+      by true lt f =
+          let y = ltb-true (at w DEPTH) KEPT lt in
+          let t : take KEPT (x ∷ loops A) ≡ x ∷ loops A = all-taken KEPT (x ∷ loops A) (omega (arith, h .reads .depth)) in
+          rw (t, sym f) (one-more y)
+      by false lt f = rw (sym f) (moved-down (ltb-false (at w DEPTH) KEPT lt))
 
-pub end-still : (s : Run) → isGo (s .flow) ≡ false → Step s s finish
-end-still s n = still finish no-finish s n
-
--- the depth after a loop's end, where one is open and where none is
-pub end-goes : (s : Run) (d : ℕ) → isGo (s .flow) ≡ true → d ≡ s .depth - 1
-    → Step s (with-loops s (s .loops) d) finish
-unfolding finish
-end-goes s d g e = record {
-  step = λ records nest o₀ A o h. given (ap finish (shape A (goes h g))) (record {
-    flat = h .flat;
-    noted = h .noted;
-    labels = h .labels;
-    loops = drop-stack (s .loops) (loops A) (h .loops);
-    depth = omega (arith, drop-length (loops A), h .depth);
-    deep = omega (arith, drop-length (loops A), h .deep);
-    flow = is-go (s .flow) g;
-    errors = h .errors;
-    met = h .met;
-  });
-}
+-- the break label is taken right behind the continue label, or nothing is opened
+pub behind : (trim : List Loop → List Loop) (r : ℕ) (A : State)
+    → begin trim (loop r (labels A) (labels (bump A))) (bump (bump A)) ≡ begin trim (loop r (labels A) (suc (labels A))) (bump (bump A))
+unfolding bump begin
+behind trim r (st m l ls os Go e) = refl
+behind trim r (st m l ls os (Cut k a b) e) = refl
+behind trim r (st m l ls os (Refused n q) e) = refl

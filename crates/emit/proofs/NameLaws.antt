@@ -1,151 +1,110 @@
--- Laws of load and store: one for each way out, and that what they find is what the rules look up. Assumes nothing.
-use mathlib.Core.Path.{_≡_, refl, sym, ap, _∙_}
+-- A load or a store by the notes, and what it makes of a state. Assumes nothing.
+use mathlib.Core.Path.{_≡_, refl, sym, ap, _∙_, subst}
 use mathlib.Core.Bool.{Bool, true, false, cond}
-use mathlib.Core.List.{List, []}
-use Prim.Native.Nat.{ℕ, _<_}
+use mathlib.Core.List.{List}
+use Prim.Native.Nat.{ℕ, _+_, _/_, _%_, _≤_, min}
 use native.Mathlib.Omega.{arith}
-use lib.ListN.{length, getD}
+use lib.ListN.{getD}
 use lib.Dec.{eqb, ltb}
-use borrow.Author.Tests.{eq-eqb, ne-eqb}
-use Rattle.opcode.specs.declared.opcode.Words.{Words as MarkerWords}
+use denote.Enum.Declared.{tagOf}
 use Rattle.opcode.specs.Words.{pairOf}
-use Rattle.tables.specs.Record.{Words, word, words}
+use Rattle.tables.specs.Record.{Words}
 use Rattle.tables.specs.declared.refusal.RunRule.{RunRule}
-use Rattle.tables.specs.declared.refusal.RunRule.the-variants.{Reference}
-use Rattle.pool.specs.declared.lookup.Span.{Span}
-use Rattle.pool.specs.Names.{Semantic, Place, at, nowhere, Access, local, global, upvalue, missing, load, store, stored-local, stored-global, is-global, index-of}
-use Rattle.pool.specs.NameWords.{loadIn, storeIn, spanOf, tables, namesIn}
+use Rattle.pool.specs.Names.{Access, local, global, upvalue, missing}
+use Rattle.pool.specs.NameWords.{accessOf}
+use Rattle.pool.specs.declared.lookup.Access.{Access as Answer}
+use Rattle.pool.specs.declared.lookup.Access.the-variants.{Local, Global, Upvalue, Missing}
+use Rattle.pool.proofs.lookup.Access.{the-type}
+use Rattle.pool.specs.Notes.{RECORDS, LOADS, STORES, load-of, store-of, load-noted, store-noted}
 use Rattle.rules.specs.declared.Flow.the-variants.{Refused}
-use Rattle.rules.specs.Marker.{Code, Do, mark}
+use Rattle.rules.specs.Marker.{LoadUpvalue}
 use Rattle.rules.specs.Step.{Use, Get, Set}
-use Rattle.rules.specs.Run.{State, emit, halt, Spot, here, nowhere as no-spot, number-of, look, sought}
 use Rattle.rules.specs.Out.{code-number}
-use Rattle.emit.specs.Sim.{Lent, Scoped, outs, Sim, Step, Emits, Seeks}
-use Rattle.emit.specs.Access.{loaded, stored}
-use Rattle.emit.specs.declared.run.Run.{Run}
-use Rattle.emit.proofs.Basics.{on-true, on-false, cap-word}
-use Rattle.emit.proofs.StateLaws.{given}
+use Rattle.rules.specs.Run.{State, Spot, number-of, local-code, global-code, sought}
+use Rattle.emit.specs.Words.{limit, cap}
+use Rattle.emit.specs.Sinks.{Pushes, stopped, Uses}
+use Rattle.emit.specs.Rep.{Outs, outs, Walk, Rep}
+use Rattle.emit.specs.Does.{access-noted, noted-look}
+use Rattle.emit.proofs.RepLaws.{halted}
+use Rattle.emit.proofs.MarkLaws.{said, same-words}
 
--- ---- what is found
+-- a noted index is a word
+abbrev pub Small : Access → Type 0
+Small (local n) = n ≤ limit
+Small (global n) = n ≤ limit
+Small (upvalue n) = n ≤ limit
+Small (missing x) = Unit {0}
 
-pub load-absent : (recs refs entries spans : List ℕ) (f i : ℕ) → i ≡ 0 → missing Reference ≡ loaded recs refs entries spans f i
-unfolding loaded
-load-absent recs refs entries spans f i e = sym (on-true (eqb i 0) _ _ (eq-eqb i 0 e))
+small-if : (b : Bool) (x y : Access) → Small x → Small y → Small (cond b x y)
+small-if true x y p q = p
+small-if false x y p q = q
 
-pub store-absent : (recs symbols refs entries spans : List ℕ) (f i : ℕ) → i ≡ 0 → missing Reference ≡ stored recs symbols refs entries spans f i
-unfolding stored
-store-absent recs symbols refs entries spans f i e = sym (on-true (eqb i 0) _ _ (eq-eqb i 0 e))
+load-small : (n : ℕ) → Small (load-of n)
+unfolding load-of
+load-small n =
+    let z : n % 4096 ≤ limit = omega arith in
+    small-if (eqb (n / 4096) 3) _ _ z (small-if (eqb (n / 4096) 4) _ _ z (small-if (eqb (n / 4096) 5) _ _ z (small-if (eqb (n / 4096) 11) _ _ tt tt)))
 
-module _ (recs symbols refs entries spans : List ℕ) (f i : ℕ) (ne : i ≡ 0 → ⊥) (x : Access) (n r : ℕ) (s : Span)
-    (es : s ≡ spanOf spans n) (en : n ≡ word recs f 2) (er : r ≡ word recs i 2) where
-  span : s ≡ spanOf spans (word recs f 2)
-  span = es ∙ ap (spanOf spans) en
+store-small : (n : ℕ) → Small (store-of n)
+unfolding store-of
+store-small n =
+    let z : n % 4096 ≤ limit = omega arith in
+    small-if (eqb (n / 4096) 7) _ _ z (small-if (eqb (n / 4096) 8) _ _ z (small-if (eqb (n / 4096) 12) _ _ tt tt))
 
-  pub load-present : x ≡ loadIn refs entries s r → x ≡ loaded recs refs entries spans f i
-  unfolding loaded
-  load-present e =
-      e ∙ ap (λ (z : Span). loadIn refs entries z r) span ∙ ap (loadIn refs entries (spanOf spans (word recs f 2))) er ∙ sym (on-false (eqb i 0) _ _ (ne-eqb i 0 ne))
+pub noted-small : (ns : List ℕ) (u : Use) (i : ℕ) → Small (access-noted ns u i)
+unfolding load-noted store-noted
+noted-small ns Get i = small-if (ltb i RECORDS) _ _ (load-small (getD ns (LOADS + i) 0)) tt
+noted-small ns Set i = small-if (ltb i RECORDS) _ _ (store-small (getD ns (STORES + i) 0)) tt
 
-  pub store-present : x ≡ storeIn symbols refs entries s r → x ≡ stored recs symbols refs entries spans f i
-  unfolding stored
-  store-present e =
-      e ∙ ap (λ (z : Span). storeIn symbols refs entries z r) span ∙ ap (storeIn symbols refs entries (spanOf spans (word recs f 2))) er
-      ∙ sym (on-false (eqb i 0) _ _ (ne-eqb i 0 ne))
+-- a store never comes to an upvalue
+abbrev is-upvalue : Access → ℕ
+is-upvalue (local n) = 0
+is-upvalue (global n) = 0
+is-upvalue (upvalue n) = 1
+is-upvalue (missing x) = 0
 
--- ---- a store never comes to an upvalue
+never-if : (b : Bool) (x y : Access) → is-upvalue x ≡ 0 → is-upvalue y ≡ 0 → is-upvalue (cond b x y) ≡ 0
+never-if true x y p q = p
+never-if false x y p q = q
 
-captures : Access → ℕ
-captures (local n) = 0
-captures (global n) = 0
-captures (upvalue n) = 1
-captures (missing x) = 0
+pub store-never : (ns : List ℕ) (i n : ℕ) → store-noted ns i ≡ upvalue n → ⊥
+unfolding store-noted store-of
+store-never ns i n e =
+    let w = getD ns (STORES + i) 0 in
+    let z : is-upvalue (store-noted ns i) ≡ 0
+    = never-if (ltb i RECORDS) _ _ (never-if (eqb (w / 4096) 7) _ _ refl (never-if (eqb (w / 4096) 8) _ _ refl (never-if (eqb (w / 4096) 12) _ _ refl refl))) refl in
+    let y : _≡_ {A = ℕ} 1 0 = sym (ap is-upvalue e) ∙ z in omega arith
 
-captures-none : (b g : Bool) (p q : Place) → captures (cond b (cond g (stored-global p) (stored-local q)) (missing Reference)) ≡ 0
-unfolding captures
-captures-none true true (at j) q = refl
-captures-none true true nowhere q = refl
-captures-none true false p (at j) = refl
-captures-none true false p nowhere = refl
-captures-none false g p q = refl
+-- an access by what the code found
+module _ {o w o′ w′ : List ℕ} (u : Use) (i : ℕ) {y : Access} where
+  pub uses-local : {n : ℕ} → local n ≡ y → Pushes o w o′ w′ (pairOf (code-number (local-code u)) n) → Uses o w o′ w′ u i y
+  uses-local e k = subst (λ (z : Access). Uses o w o′ w′ u i z) e k
 
-store-plain : (symbols refs ws : List ℕ) (s : Span) (r : ℕ) → captures (storeIn symbols refs ws s r) ≡ 0
-unfolding storeIn
-store-plain symbols refs ws s r =
-    let x = getD refs r 0 in
-    let n = namesIn ws s in
-    captures-none (ltb r (length refs)) (is-global (tables symbols [] []) x) (index-of (n .globals) x) (index-of (n .locals) x)
+  pub uses-global : {n : ℕ} → global n ≡ y → Pushes o w o′ w′ (pairOf (code-number (global-code u)) n) → Uses o w o′ w′ u i y
+  uses-global e k = subst (λ (z : Access). Uses o w o′ w′ u i z) e k
 
-present-plain : (b : Bool) (x : Access) → captures x ≡ 0 → captures (cond b (missing Reference) x) ≡ 0
-unfolding captures
-present-plain true x h = refl
-present-plain false x h = h
+  pub uses-upvalue : {n : ℕ} → upvalue n ≡ y → Pushes o w o′ w′ (pairOf (code-number LoadUpvalue) n) → Uses o w o′ w′ u i y
+  uses-upvalue e k = subst (λ (z : Access). Uses o w o′ w′ u i z) e k
 
-pub store-never : (recs symbols refs entries spans : List ℕ) (f i n : ℕ) → upvalue n ≡ stored recs symbols refs entries spans f i → ⊥
-unfolding stored captures
-store-never recs symbols refs entries spans f i n e =
-    let s = spanOf spans (word recs f 2) in
-    let x = storeIn symbols refs entries s (word recs i 2) in
-    let z : _≡_ {A = ℕ} 1 0 = ap captures e ∙ present-plain (eqb i 0) x (store-plain symbols refs entries s (word recs i 2)) in
-    omega arith
+pub uses-none : {o o′ w′ : List ℕ} (w : List ℕ) (u : Use) (i : ℕ) {y : Access} {x : RunRule} → missing x ≡ y → o′ ≡ o → w′ ≡ stopped (Refused x i) w
+    → Uses o w o′ w′ u i y
+uses-none {o} {o′} {w′} w u i e p k = subst (λ (z : Access). Uses o w o′ w′ u i z) e (p, k)
 
--- ---- the ways out
+pub store-captured : (ns : List ℕ) (i : ℕ) (x : Answer) → accessOf x ≡ store-noted ns i → tagOf the-type x ≡ 2 → ⊥
+store-captured ns i (Local n) e q = omega arith
+store-captured ns i (Global n) e q = omega arith
+store-captured ns i (Upvalue n) e q = store-never ns i (n .0) (sym e)
+store-captured ns i (Missing x) e q = omega arith
 
--- an instruction: y is local, global or upvalue n
-pub seek-some : (nest : Bool) (o o′ : List ℕ) (s s′ : Run) (u : Use) (i : ℕ) (x y : Access) (w : MarkerWords) (c : Code) (n : ℕ) → y ≡ x
-    → ((r : ℕ) (A : State) → sought r u i y A ≡ emit (mark r (Do c n)) A) → w ≡ pairOf (code-number c) n → n < 4294967296 → Emits nest o s o′ s′ w → Seeks nest o s o′ s′ u i x
-seek-some nest o o′ s s′ u i x y w c n e q a lt z =
-    record {
-      seeks = λ recs cs r.
-          record {
-            moves = λ o₀ A h.
-                given (ap (λ (g : Access). sought r u i g A) (sym e) ∙ q r A)
-                (z .emits recs cs r (Do c n) (ap (λ (v : MarkerWords). v .code) a, ap (λ (v : MarkerWords). v .operand) a ∙ cap-word n lt) .moves o₀ A h);
-          };
-    }
+module _ {c : Walk} {records : List ℕ} {o₀ : Outs} {A : State} {o w o′ w′ cs : List ℕ} (r : ℕ) where
+  used : (u : Use) (i : ℕ) (x : Access) → Small x → Uses o w o′ w′ u i x → Rep c records o₀ A (outs o cs) w → Rep c records o₀ (sought r u i x A) (outs o′ cs) w′
+  used u i (local n) s k h = said r (local-code u) n refl (let e : n ≡ cap n = omega arith in e) k h
+  used u i (global n) s k h = said r (global-code u) n refl (let e : n ≡ cap n = omega arith in e) k h
+  used u i (upvalue n) s k h = said r LoadUpvalue n refl (let e : n ≡ cap n = omega arith in e) k h
+  used u i (missing x) s k h = same-words (k .0) refl (halted (Refused x i) (k .1) h)
 
-pub seek-none : (nest : Bool) (o : List ℕ) (s s′ : Run) (u : Use) (i : ℕ) (x : Access) (rule : RunRule) → missing rule ≡ x → Step s s′ (halt (Refused rule i))
-    → Seeks nest o s o s′ u i x
-seek-none nest o s s′ u i x rule e z =
-    record {
-      seeks = λ recs cs r.
-          record { moves = λ o₀ A h. given (ap (λ (g : Access). sought r u i g A) (sym e)) (z .step recs nest o₀ A (outs o cs) h) };
-    }
-
--- ---- the rules' lookup
-
--- a spot is a record other than 0, with its words, or none
-abbrev pub Spotted : List ℕ → Spot → Type 0
-Spotted recs (here r w) = (r ≡ 0 → ⊥) × (w ≡ words recs r)
-Spotted recs no-spot = Unit {0}
-
-module _ (t : Semantic) (e : Lent) (s : Scoped t e) (f : ℕ) where
-  pub loaded-look : (p : Spot) → Spotted (e .records) p → loaded (e .records) (e .references) (e .entries) (e .spans) f (number-of p) ≡ look t (words (e .records) f) Get p
-  unfolding loaded
-  loaded-look (here r w) (ne, q) =
-      on-false (eqb r 0) _ _ (ne-eqb r 0 ne) ∙ s .loads (word (e .records) f 2) (word (e .records) r 2) ∙ ap (λ (z : Words). load t (word (e .records) f 2) (z .p)) (sym q)
-  loaded-look no-spot h = refl
-
-  pub stored-look : (p : Spot) → Spotted (e .records) p
-      → stored (e .records) (e .symbols) (e .references) (e .entries) (e .spans) f (number-of p) ≡ look t (words (e .records) f) Set p
-  unfolding stored
-  stored-look (here r w) (ne, q) =
-      on-false (eqb r 0) _ _ (ne-eqb r 0 ne) ∙ s .stores (word (e .records) f 2) (word (e .records) r 2) ∙ ap (λ (z : Words). store t (word (e .records) f 2) (z .p)) (sym q)
-  stored-look no-spot h = refl
-
--- so load and store are the step `seek` of the rules
-module _ (e : Lent) (nest : Bool) (o o′ cs : List ℕ) (s s′ : Run) (f r : ℕ) (p : Spot) (h : Spotted (e .records) p) where
-  pub load-seeks : Seeks nest o s o′ s′ Get (number-of p) (loaded (e .records) (e .references) (e .entries) (e .spans) f (number-of p))
-      → Sim e nest (outs o cs) s (outs o′ cs) s′ (λ t. sought r Get (number-of p) (look t (words (e .records) f) Get p))
-  load-seeks z =
-      record {
-        sim = λ t d o₀ A y.
-            given (ap (λ (g : Access). sought r Get (number-of p) g A) (sym (loaded-look t e d f p h))) (z .seeks (e .records) cs r .moves o₀ A y);
-      }
-
-  pub store-seeks : Seeks nest o s o′ s′ Set (number-of p) (stored (e .records) (e .symbols) (e .references) (e .entries) (e .spans) f (number-of p))
-      → Sim e nest (outs o cs) s (outs o′ cs) s′ (λ t. sought r Set (number-of p) (look t (words (e .records) f) Set p))
-  store-seeks z =
-      record {
-        sim = λ t d o₀ A y.
-            given (ap (λ (g : Access). sought r Set (number-of p) g A) (sym (stored-look t e d f p h))) (z .seeks (e .records) cs r .moves o₀ A y);
-      }
+  -- the Ident at the spot x, whose number is i
+  pub accessed : (ns : List ℕ) (fn : Words) (u : Use) {i : ℕ} (x : Spot) → number-of x ≡ i → Uses o w o′ w′ u i (access-noted ns u i)
+      → Rep c records o₀ A (outs o cs) w → Rep c records o₀ (sought r u (number-of x) (noted-look ns fn u x) A) (outs o′ cs) w′
+  accessed ns fn u {i} x e k h = subst (λ (j : ℕ). Rep c records o₀ (sought r u j (access-noted ns u j) A) (outs o′ cs) w′) (sym e) (used u i (access-noted ns u i)
+      (noted-small ns u i) k h)

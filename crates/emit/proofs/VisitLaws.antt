@@ -1,26 +1,24 @@
 -- A record's visit is its steps, with the children by their numbers. Assumes nothing.
-use mathlib.Core.Path.{_≡_, refl, sym, ap, subst, _∙_, fun-ext}
-use mathlib.Core.Bool.{Bool}
+use mathlib.Core.Path.{_≡_, refl, sym, ap, _∙_, fun-ext, subst}
+use mathlib.Core.Bool.{Bool, true, false, cond}
 use mathlib.Core.List.{List, [], _∷_}
 use Prim.Native.Nat.{ℕ, zero, suc}
 use native.Mathlib.Omega.{arith}
 use lib.ListN.{getD}
-use Rattle.tables.specs.Record.{Words, words}
-use Rattle.tables.specs.Forest.{Forest, none, tree, first, next, forest, children, fold, own-tree}
+use Rattle.tables.specs.Record.{Words, words, is-function}
+use Rattle.tables.specs.Forest.{Forest, none, tree, first, next, forest, children, own-tree}
 use Rattle.tables.proofs.ForestLaws.{forest-absent, forest-record}
-use Rattle.pool.specs.Names.{Semantic}
 use Rattle.rules.specs.Arms.{stream-steps}
 use Rattle.rules.specs.Kinds.{steps}
-use Rattle.rules.specs.Step.{Role, Path, Step}
-use Rattle.rules.specs.Run.{State, Spot, here, nowhere, exec, idle, stream, Visit, absent, child-visit, visit-alg, visits-of, from-tree, spot-at}
-use Rattle.emit.specs.Sim.{walk}
-use Rattle.emit.specs.Does.{nth, child, reach, spot, visit-at, own-stream, near, part, does}
-use Rattle.emit.proofs.NameLaws.{Spotted}
+use Rattle.rules.specs.Step.{Role, ChildPath, Step}
+use Rattle.rules.specs.Run.{State, Spot, here, nowhere, Lookup, exec, idle, stream, Visit, absent, child-visit, visit-alg, visits-of, from-tree, spot-below, spot-at, number-of}
+use Rattle.emit.specs.Rep.{Outs, Walk, within, mode, Rep, Lent, Sim}
+use Rattle.emit.specs.Does.{nth, child, reach, spot, noted-look, visit-at, visit-in, own-stream, near, doing, does}
 
 module _ (recs : List ℕ) where
-  pub spotted : (r : ℕ) → Spotted recs (spot recs r)
-  spotted zero = tt
-  spotted (suc r) = (λ e. omega arith, refl)
+  pub number-spot : (i : ℕ) → number-of (spot recs i) ≡ i
+  number-spot zero = refl
+  number-spot (suc i) = refl
 
   nth-absent : (j : ℕ) → nth recs j 0 ≡ 0
   unfolding next
@@ -33,56 +31,74 @@ module _ (recs : List ℕ) where
   from-nth (suc j) zero = ap (from-tree (suc j)) (forest-absent recs) ∙ sym (forest-absent recs) ∙ ap (forest recs) (sym (nth-absent j))
   from-nth (suc j) (suc c) = ap (from-tree (suc j)) (forest-record recs c) ∙ from-nth j (next recs (suc c))
 
-  nowhere-at : (js : Path) → spot-at none js ≡ nowhere
+  nowhere-at : (js : ChildPath) → spot-below none js ≡ nowhere
   nowhere-at [] = refl
   nowhere-at (j ∷ js) = refl
 
   -- a path from a record leads to the record that the links give
-  pub spot-reach : (l : ℕ) (js : Path) → spot-at (forest recs l) js ≡ spot recs (reach recs l js)
-  spot-reach zero [] = ap (λ (f : Forest). spot-at f []) (forest-absent recs)
-  spot-reach (suc l) [] = ap (λ (f : Forest). spot-at f []) (forest-record recs l)
+  spot-reach : (l : ℕ) (js : ChildPath) → spot-below (forest recs l) js ≡ spot recs (reach recs l js)
+  spot-reach zero [] = ap (λ (f : Forest). spot-below f []) (forest-absent recs)
+  spot-reach (suc l) [] = ap (λ (f : Forest). spot-below f []) (forest-record recs l)
   spot-reach zero (j ∷ js) =
-      ap (λ (f : Forest). spot-at f (j ∷ js)) (forest-absent recs) ∙ sym (nowhere-at js) ∙ ap (λ (f : Forest). spot-at f js) (sym (forest-absent recs))
+      ap (λ (f : Forest). spot-below f (j ∷ js)) (forest-absent recs) ∙ sym (nowhere-at js) ∙ ap (λ (f : Forest). spot-below f js) (sym (forest-absent recs))
       ∙ spot-reach 0 js
   spot-reach (suc l) (j ∷ js) =
-      ap (λ (f : Forest). spot-at f (j ∷ js)) (forest-record recs l) ∙ ap (λ (f : Forest). spot-at f js) (from-nth j (first recs (suc l)))
-      ∙ spot-reach (nth recs j (first recs (suc l))) js
+      ap (λ (f : Forest). spot-below f (j ∷ js)) (forest-record recs l) ∙ by (is-function (words recs (suc l)))
+      (ap (λ (f : Forest). spot-below f js) (sym (forest-absent recs)) ∙ spot-reach 0 js)
+      (ap (λ (f : Forest). spot-below f js) (from-nth j (first recs (suc l))) ∙ spot-reach (nth recs j (first recs (suc l))) js)
+    where
+      by : (b : Bool) → spot-below none js ≡ spot recs (reach recs 0 js)
+          → spot-below (from-tree j (children recs (suc l))) js ≡ spot recs (reach recs (nth recs j (first recs (suc l))) js)
+          → cond b nowhere (spot-below (from-tree j (children recs (suc l))) js) ≡ spot recs (reach recs (cond b 0 (nth recs j (first recs (suc l)))) js)
+      by true e q = sym (nowhere-at js) ∙ e
+      by false e q = q
 
   -- the same from a record that is visited, record 0 too
-  pub spot-below : (r : ℕ) (w : Words) (j : ℕ) (js : Path)
+  pub spot-child : (r : ℕ) (w : Words) (j : ℕ) (js : ChildPath)
       → spot-at (tree r w (children recs r) none) (j ∷ js) ≡ spot recs (reach recs (nth recs j (first recs r)) js)
-  spot-below r w j js = ap (λ (f : Forest). spot-at f js) (from-nth j (first recs r)) ∙ spot-reach (nth recs j (first recs r)) js
+  spot-child r w j js = ap (λ (f : Forest). spot-below f js) (from-nth j (first recs r)) ∙ spot-reach (nth recs j (first recs r)) js
 
-  module _ (nest : Bool) (t : Semantic) where
-    at-nth : (j c : ℕ) → getD (visits-of t (walk nest) (forest recs c)) j absent ≡ visit-at recs nest t (nth recs j c)
-    unfolding visit-at next
-    at-nth zero c = refl
-    at-nth (suc j) zero =
-        ap (λ (f : Forest). getD (visits-of t (walk nest) f) (suc j) absent) (forest-absent recs)
-        ∙ sym (ap (λ (f : Forest). getD (visits-of t (walk nest) f) j absent) (forest-absent recs)) ∙ at-nth j 0
-    at-nth (suc j) (suc c) = ap (λ (f : Forest). getD (visits-of t (walk nest) f) (suc j) absent) (forest-record recs c) ∙ at-nth j (next recs (suc c))
+  -- the number of the Ident at child j
+  pub ident-number : (r : ℕ) (w : Words) (j : ℕ) {i : ℕ} → i ≡ nth recs j (first recs r) → number-of (spot-at (tree r w (children recs r) none) (j ∷ [])) ≡ i
+  ident-number r w j {i} q = ap number-of (spot-child r w j []) ∙ number-spot (nth recs j (first recs r)) ∙ sym q
 
-    pub children-near : (f r : ℕ) → child-visit (visits-of t (walk nest) (children recs r)) (words recs f) ≡ near recs nest t f r
-    children-near f r = fun-ext (λ (a : Role). fun-ext (λ (j : ℕ). ap (λ (v : Visit). v a (words recs f)) (at-nth j (first recs r))))
+module _ (e : Lent) (c : Walk) where
+  abbrev R : List ℕ
+  R = e .records
 
-    pub visit-none : (a : Role) (fn : Words) (s : State) → visit-at recs nest t 0 a fn s ≡ s
-    unfolding visit-at
-    visit-none a fn s = ap (λ (f : Forest). getD (visits-of t (walk nest) f) 0 absent a fn s) (forest-absent recs)
+  abbrev L : Lookup
+  L = noted-look (e .notes)
 
-    pub visit-does : (r : ℕ) → (r ≡ 0 → ⊥) → (a : Role) (f : ℕ)
-        → visit-at recs nest t r a (words recs f) ≡ does recs nest t f r (steps a (words recs r) (own-tree (children recs r)))
-    unfolding visit-at own-stream part does
-    visit-does zero ne a f = absurd (ne refl)
-    visit-does (suc r) ne a f =
-        ap (λ (x : Forest). getD (visits-of t (walk nest) x) 0 absent a (words recs f)) (forest-record recs r)
-        ∙ ap (λ (vs : Role → ℕ → State → State). exec t (walk nest) (words recs f) (suc r) (words recs (suc r)) (children recs (suc r)) vs
-        (stream t (walk nest) (suc r) (words recs (suc r)) (children recs (suc r)) (visits-of t (walk nest) (children recs (suc r))))
-        (steps a (words recs (suc r)) (own-tree (children recs (suc r)))) []) (children-near f (suc r))
+  at-nth : (j l : ℕ) → getD (visits-of L (mode c) (forest R l)) j absent ≡ visit-at e c (nth R j l)
+  unfolding visit-at next
+  at-nth zero l = refl
+  at-nth (suc j) zero =
+      ap (λ (f : Forest). getD (visits-of L (mode c) f) (suc j) absent) (forest-absent R)
+      ∙ sym (ap (λ (f : Forest). getD (visits-of L (mode c) f) j absent) (forest-absent R)) ∙ at-nth j 0
+  at-nth (suc j) (suc l) = ap (λ (f : Forest). getD (visits-of L (mode c) f) (suc j) absent) (forest-record R l) ∙ at-nth j (next R (suc l))
 
-    -- a function's stream is its steps, with no stream inside it
-    pub stream-does : (r : ℕ)
-        → own-stream recs nest t r ≡ exec t (walk nest) (words recs r) r (words recs r) (children recs r) (near recs nest t r r) idle (stream-steps (words recs r)) []
-    unfolding own-stream stream
-    stream-does r =
-        ap (λ (vs : Role → ℕ → State → State). exec t (walk nest) (words recs r) r (words recs r) (children recs r) vs idle (stream-steps (words recs r)) [])
-        (children-near r r)
+  pub children-near : (r : ℕ) → child-visit (visits-of L (mode c) (children R r)) (words R (c .function)) ≡ near e c r
+  children-near r = fun-ext (λ (a : Role). fun-ext (λ (j : ℕ). ap (λ (v : Visit). v a (words R (c .function))) (at-nth j (first R r))))
+
+  pub visit-none : (a : Role) (s : State) → visit-in e c a 0 s ≡ s
+  unfolding visit-at
+  visit-none a s = ap (λ (f : Forest). getD (visits-of L (mode c) f) 0 absent a (words R (c .function)) s) (forest-absent R)
+
+  pub visit-does : (r : ℕ) → (r ≡ 0 → ⊥) → (a : Role) → visit-in e c a r ≡ does e c r (steps (c .code) a (words R r) (own-tree (children R r)))
+  unfolding visit-at own-stream doing does
+  visit-does zero ne a = absurd (ne refl)
+  visit-does (suc r) ne a =
+      ap (λ (x : Forest). getD (visits-of L (mode c) x) 0 absent a (words R (c .function))) (forest-record R r)
+      ∙ ap (λ (vs : Role → ℕ → State → State). exec L (mode c) (words R (c .function)) (suc r) (words R (suc r)) (children R (suc r)) vs
+      (stream L (mode c) (suc r) (words R (suc r)) (children R (suc r)) (visits-of L (mode c) (children R (suc r))))
+      (steps (c .code) a (words R (suc r)) (own-tree (children R (suc r)))) []) (children-near (suc r))
+
+-- the stream of a Function is the steps of its body, walked in that function
+module _ (e : Lent) (c : Walk) (r : ℕ) where
+  pub stream-does : own-stream e c r
+      ≡ exec (noted-look (e .notes)) (mode c) (words (e .records) r) r (words (e .records) r) (children (e .records) r) (near e (within r c) r) idle (stream-steps
+      (words (e .records) r)) []
+  unfolding own-stream stream visit-at
+  stream-does =
+      ap (λ (vs : Role → ℕ → State → State). exec (noted-look (e .notes)) (mode c) (words (e .records) r) r (words (e .records) r) (children (e .records) r) vs idle
+      (stream-steps (words (e .records) r)) []) (children-near e (within r c) r)

@@ -1,78 +1,48 @@
-// The errors: a Return in a Do, and an error that a block keeps.
-use crate::flow::stop;
-use crate::label::inc_count;
-use crate::run::Run;
+// errors.push(err)
+use crate::frame::Frame;
+use crate::frame::errors;
+use crate::frame::flow;
+use crate::frame::nests;
+use crate::frame::set_errors;
+use crate::frame::set_flow;
+use crate::word::inc;
+use crate::word::wide;
 use rules::Flow;
-use tables::ast::detail;
-use tables::ast::end;
-use tables::ast::start;
 ghost use mathlib.Core.Path.{_≡_};
-ghost use Rattle.tables.specs.Record.{words, is-do};
-ghost use Rattle.pool.specs.Consts.{put3 as put3Of};
-ghost use Rattle.rules.specs.Run.{barred};
-ghost use Rattle.emit.specs.Sim.{Step};
-ghost use Rattle.emit.specs.Flows.{resumedOf, Keeps};
+ghost use Rattle.pool.specs.Consts.{put3};
+ghost use Rattle.emit.specs.Sinks.{noted, Keeps};
 
-// A Return in a Do is an error.
-pub fn bar(recs: &[u32], st: Run, f: usize, r: usize) -> Run
-    ensures { λ s. ⌜ Step st s (barred (words (now (recs .entry)) r) (is-do (words (now (recs .entry)) f))) ⌝ }
+// The three words of error n, where there is room.
+fn put(code: &mut [u32], n: u32, kind: u32, start: u32, end: u32)
+    ensures { λ _. ⌜ now (code .exit) ≡ put3 (now (code .entry)) n kind start end ⌝ }
 {
-    let d = detail(recs, f);
-    if d == 2 {
-        let a = start(recs, r);
-        let b = end(recs, r);
-        return stop(st, Flow::Cut(2, a, b));
-    }
-    st
-}
-
-// Three words at error n, where there is room.
-fn put3(out: &mut [u32], n: usize, k: u32, a: u32, b: u32)
-    ensures { λ _. ⌜ now (out .exit) ≡ put3Of (now (out .entry)) n k a b ⌝ }
-{
-    if n < out.len() {
-        let i = n * 3 + 2;
-        if i < out.len() {
-            out[n * 3] = k;
-            out[n * 3 + 1] = a;
-            out[i] = b;
-        }
+    let at = wide(n) * 3;
+    let i = at + 2;
+    if i < code.len() {
+        code[at] = kind;
+        code[at + 1] = start;
+        code[i] = end;
     }
 }
 
-// One error more, and the run goes on.
-fn resumed(st: Run) -> Run
-    ensures { λ s. ⌜ s ≡ resumedOf st ⌝ }
+// A walk with the functions inside writes an error's words, the other none.
+fn note(code: &mut [u32], frame: &Frame, kind: u32, start: u32, end: u32)
+    ensures { λ _. ⌜ now (code .exit) ≡ noted (now (code .entry)) (now (frame .entry)) kind start end ⌝ }
 {
-    let l = st.loops;
-    let n = st.errors;
-    Run {
-        at: st.at,
-        labels: st.labels,
-        loops: l,
-        depth: st.depth,
-        flow: Flow::Go,
-        errors: inc_count(n),
-        met: st.met,
-        count: st.count,
+    if nests(frame) {
+        put(code, errors(frame), kind, start, end);
     }
 }
 
-// An error is kept, and the run goes on: a walk with the functions inside writes its words, the other only counts it.
-pub fn keep_error(nest: bool, out: &mut [u32], st: Run) -> Run
-    ensures { λ s. ⌜ Keeps nest (now (out .entry)) st (now (out .exit)) s ⌝ }
+// An error is kept, and the run goes on.
+pub fn keep_error(code: &mut [u32], frame: &mut Frame)
+    ensures { λ _. ⌜ Keeps (now (code .entry)) (now (frame .entry)) (now (code .exit)) (now (frame .exit)) ⌝ }
 {
-    let f = st.flow;
-    match f {
-        Flow::Go => st,
-        Flow::Cut(k, a, b) => {
-            if nest {
-                let n = st.errors;
-                put3(out, n, k, a, b);
-                return resumed(st);
-            }
-            resumed(st)
-        }
-        Flow::Refused(_, _) => st,
-    }
+    let Flow::Cut(kind, start, end) = flow(frame) else {
+        return;
+    };
+    let n = errors(frame);
+    note(code, frame, kind, start, end);
+    set_flow(frame, Flow::Go);
+    set_errors(frame, inc(n))
 }

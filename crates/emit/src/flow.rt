@@ -1,49 +1,32 @@
-// The run's flow of control: nothing is done unless it goes on.
-use crate::run::Run;
+// The run's end: an error or a refusal ends what goes on.
+use crate::frame::Frame;
+use crate::frame::goes_on;
+use crate::frame::set_flow;
 use rules::Flow;
+use tables::ast::end;
+use tables::ast::start;
+use tables::refusal::RunRule;
 ghost use mathlib.Core.Path.{_≡_};
-ghost use Rattle.rules.specs.Run.{halt};
-ghost use Rattle.emit.specs.Sim.{Step};
-ghost use Rattle.emit.specs.Flows.{isGo, isCut};
+ghost use Rattle.tables.specs.Record.{word};
+ghost use Rattle.emit.specs.Sinks.{stopped};
 
-pub fn going(st: Run) -> bool
-    ensures { λ b. ⌜ b ≡ isGo (st .flow) ⌝ }
+pub fn stop(frame: &mut Frame, flow: Flow)
+    ensures { λ _. ⌜ now (frame .exit) ≡ stopped flow (now (frame .entry)) ⌝ }
 {
-    let f = st.flow;
-    match f {
-        Flow::Go => true,
-        Flow::Cut(_, _, _) => false,
-        Flow::Refused(_, _) => false,
+    if goes_on(frame) {
+        set_flow(frame, flow);
     }
 }
 
-pub fn is_cut(st: Run) -> bool
-    ensures { λ b. ⌜ b ≡ isCut (st .flow) ⌝ }
+// return Err(..), an error of this kind at record r
+pub fn cut(recs: &[u32], frame: &mut Frame, kind: u32, r: usize)
+    ensures { λ _. ⌜ now (frame .exit) ≡ stopped (Flow.Cut kind (word (now (recs .entry)) r 4) (word (now (recs .entry)) r 5)) (now (frame .entry)) ⌝ }
 {
-    let f = st.flow;
-    match f {
-        Flow::Go => false,
-        Flow::Cut(_, _, _) => true,
-        Flow::Refused(_, _) => false,
-    }
+    stop(frame, Flow::Cut(kind, start(recs, r), end(recs, r)));
 }
 
-// An error or a refusal ends what goes on.
-pub fn stop(st: Run, f: Flow) -> Run
-    ensures { λ s. ⌜ Step st s (halt f) ⌝ }
+pub fn refuse(frame: &mut Frame, rule: RunRule, r: usize)
+    ensures { λ _. ⌜ now (frame .exit) ≡ stopped (Flow.Refused rule r) (now (frame .entry)) ⌝ }
 {
-    if going(st) {
-        let l = st.loops;
-        return Run {
-            at: st.at,
-            labels: st.labels,
-            loops: l,
-            depth: st.depth,
-            flow: f,
-            errors: st.errors,
-            met: st.met,
-            count: st.count,
-        };
-    }
-    st
+    stop(frame, Flow::Refused(rule, r));
 }

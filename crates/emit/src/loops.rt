@@ -1,58 +1,78 @@
-// continue_stack and break_stack: the newest open loops.
-use crate::flow::going;
-use crate::run::KEPT;
-use crate::run::Run;
+// continue_stack and break_stack: the newest open loops by their continue labels; a break label is taken right behind.
+use crate::frame::Frame;
+use crate::frame::KEPT;
+use crate::frame::depth;
+use crate::frame::goes_on;
+use crate::frame::loop_label;
+use crate::frame::set_depth;
+use crate::frame::set_loop_label;
+use crate::label::next_label;
+use crate::word::inc;
+use crate::word::wide;
 use opcode::index::LabelId;
 ghost use mathlib.Core.Path.{_≡_};
-ghost use Rattle.rules.specs.Run.{finish};
-ghost use Rattle.emit.specs.Sim.{Step, Begins};
-ghost use Rattle.emit.specs.Flows.{Shifted};
+ghost use Rattle.emit.specs.Sinks.{shifted, opened, closed, continueOf, breakOf};
+
+pub enum LabelLookup {
+    Found(LabelId),
+    Absent,
+}
 
 // The oldest label is dropped, and the last place is free.
-fn shift(a: [u32; 128]) -> [u32; 128]
-    ensures { λ b. ⌜ Shifted a b ⌝ }
+fn shift(frame: &mut Frame)
+    ensures { λ _. ⌜ now (frame .exit) ≡ shifted 127 (now (frame .entry)) ⌝ }
 {
-    let mut b = a;
     let mut i: usize = 0;
-    while i < 127 {
-        b[i] = a[i + 1];
+    while i < KEPT - 1 {
+        let label = loop_label(frame, i + 1);
+        set_loop_label(frame, i, label);
         i += 1;
     }
-    b
 }
 
-// A loop opens with its continue label; where as many as are kept stand open, the oldest is dropped.
-pub fn begin_loop(st: Run, label: LabelId) -> Run
-    ensures { λ s. ⌜ Begins st s (label .0) ⌝ }
+pub fn begin_loop(frame: &mut Frame, continue_label: LabelId)
+    ensures { λ _. ⌜ now (frame .exit) ≡ opened («continue_label» .0) (now (frame .entry)) ⌝ }
 {
-    if going(st) {
-        let d = st.depth;
-        let l = label.0;
-        let mut s = st;
-        if d < KEPT {
-            s.loops[d] = l;
-            s.depth = d + 1;
-            return s;
+    if goes_on(frame) {
+        let d = depth(frame);
+        let n = wide(d);
+        if n < KEPT {
+            set_loop_label(frame, n, continue_label);
+            return set_depth(frame, inc(d));
         }
-        let a = st.loops;
-        s.loops = shift(a);
-        s.loops[127] = l;
-        return s;
+        shift(frame);
+        set_loop_label(frame, KEPT - 1, continue_label)
     }
-    st
 }
 
-// The innermost loop closes.
-pub fn end_loop(st: Run) -> Run
-    ensures { λ s. ⌜ Step st s finish ⌝ }
+pub fn end_loop(frame: &mut Frame)
+    ensures { λ _. ⌜ now (frame .exit) ≡ closed (now (frame .entry)) ⌝ }
 {
-    if going(st) {
-        let d = st.depth;
-        let mut s = st;
-        if d != 0 {
-            s.depth = d - 1;
-            return s;
+    if goes_on(frame) {
+        let n = depth(frame);
+        if 0 < n {
+            set_depth(frame, n - 1)
         }
     }
-    st
+}
+
+// continue_stack().last()
+pub fn continue_label(frame: &Frame) -> LabelLookup
+    ensures { λ l. ⌜ l ≡ continueOf (now (frame .entry)) ⌝ }
+{
+    let n = wide(depth(frame));
+    if n == 0 {
+        return LabelLookup::Absent;
+    }
+    LabelLookup::Found(loop_label(frame, n - 1))
+}
+
+// break_stack().last()
+pub fn break_label(frame: &Frame) -> LabelLookup
+    ensures { λ l. ⌜ l ≡ breakOf (now (frame .entry)) ⌝ }
+{
+    let LabelLookup::Found(label) = continue_label(frame) else {
+        return LabelLookup::Absent;
+    };
+    LabelLookup::Found(next_label(label))
 }

@@ -1,348 +1,196 @@
-// push_code of each opcode that a visitor writes, as the Rust turns an OpCode into a marker: the opcode's words, and the push.
-use crate::code::push_words;
-use crate::run::Run;
+// push_code of each opcode that a visitor writes.
+use crate::code::push_op;
+use crate::frame::Frame;
+use opcode::index::GlobalNameId;
 use opcode::index::LabelId;
+use opcode::index::LocalNameId;
+use opcode::index::UpvalueNameId;
 use opcode::opcode::OpCode;
-use opcode::opcode::Words;
-use opcode::words::op_words;
-ghost use mathlib.Core.Path.{_≡_};
 ghost use Rattle.opcode.specs.Words.{pairOf};
-ghost use Rattle.emit.specs.Sim.{Emits};
+ghost use Rattle.emit.specs.Sinks.{Pushes};
 
-fn pop_words() -> Words
-    ensures { λ w. ⌜ w ≡ pairOf 0 0 ⌝ }
+pub fn push_pop(code: &mut [u32], frame: &mut Frame)
+    ensures { λ _. ⌜ Pushes (now (code .entry)) (now (frame .entry)) (now (code .exit)) (now (frame .exit)) (pairOf 0 0) ⌝ }
 {
-    op_words(OpCode::Pop)
+    push_op(code, frame, OpCode::Pop)
 }
 
-pub fn push_pop(nest: bool, out: &mut [u32], st: Run) -> Run
-    ensures { λ s. ⌜ Emits nest (now (out .entry)) st (now (out .exit)) s (pairOf 0 0) ⌝ }
+pub fn push_copy(code: &mut [u32], frame: &mut Frame, n: u32)
+    ensures { λ _. ⌜ Pushes (now (code .entry)) (now (frame .entry)) (now (code .exit)) (now (frame .exit)) (pairOf 1 n) ⌝ }
 {
-    let w = pop_words();
-    push_words(nest, out, st, w)
+    push_op(code, frame, OpCode::Copy(n))
 }
 
-fn copy_words(n: u32) -> Words
-    ensures { λ w. ⌜ w ≡ pairOf 1 n ⌝ }
+pub fn push_swap(code: &mut [u32], frame: &mut Frame, n: u32)
+    ensures { λ _. ⌜ Pushes (now (code .entry)) (now (frame .entry)) (now (code .exit)) (now (frame .exit)) (pairOf 2 n) ⌝ }
 {
-    op_words(OpCode::Copy(n))
+    push_op(code, frame, OpCode::Swap(n))
 }
 
-pub fn push_copy(nest: bool, out: &mut [u32], st: Run, n: u32) -> Run
-    ensures { λ s. ⌜ Emits nest (now (out .entry)) st (now (out .exit)) s (pairOf 1 n) ⌝ }
+pub fn push_load_local(code: &mut [u32], frame: &mut Frame, id: LocalNameId)
+    ensures { λ _. ⌜ Pushes (now (code .entry)) (now (frame .entry)) (now (code .exit)) (now (frame .exit)) (pairOf 3 (id .0)) ⌝ }
 {
-    let w = copy_words(n);
-    push_words(nest, out, st, w)
+    push_op(code, frame, OpCode::LoadLocal(id))
 }
 
-fn swap_words(n: u32) -> Words
-    ensures { λ w. ⌜ w ≡ pairOf 2 n ⌝ }
+pub fn push_load_global(code: &mut [u32], frame: &mut Frame, id: GlobalNameId)
+    ensures { λ _. ⌜ Pushes (now (code .entry)) (now (frame .entry)) (now (code .exit)) (now (frame .exit)) (pairOf 4 (id .0)) ⌝ }
 {
-    op_words(OpCode::Swap(n))
+    push_op(code, frame, OpCode::LoadGlobal(id))
 }
 
-pub fn push_swap(nest: bool, out: &mut [u32], st: Run, n: u32) -> Run
-    ensures { λ s. ⌜ Emits nest (now (out .entry)) st (now (out .exit)) s (pairOf 2 n) ⌝ }
+pub fn push_load_upvalue(code: &mut [u32], frame: &mut Frame, id: UpvalueNameId)
+    ensures { λ _. ⌜ Pushes (now (code .entry)) (now (frame .entry)) (now (code .exit)) (now (frame .exit)) (pairOf 5 (id .0)) ⌝ }
 {
-    let w = swap_words(n);
-    push_words(nest, out, st, w)
+    push_op(code, frame, OpCode::LoadUpvalue(id))
 }
 
-fn build_table_words(n: u32) -> Words
-    ensures { λ w. ⌜ w ≡ pairOf 9 n ⌝ }
+pub fn push_store_local(code: &mut [u32], frame: &mut Frame, id: LocalNameId)
+    ensures { λ _. ⌜ Pushes (now (code .entry)) (now (frame .entry)) (now (code .exit)) (now (frame .exit)) (pairOf 7 (id .0)) ⌝ }
 {
-    op_words(OpCode::BuildTable(n))
+    push_op(code, frame, OpCode::StoreLocal(id))
 }
 
-pub fn push_build_table(nest: bool, out: &mut [u32], st: Run, n: u32) -> Run
-    ensures { λ s. ⌜ Emits nest (now (out .entry)) st (now (out .exit)) s (pairOf 9 n) ⌝ }
+pub fn push_store_global(code: &mut [u32], frame: &mut Frame, id: GlobalNameId)
+    ensures { λ _. ⌜ Pushes (now (code .entry)) (now (frame .entry)) (now (code .exit)) (now (frame .exit)) (pairOf 8 (id .0)) ⌝ }
 {
-    let w = build_table_words(n);
-    push_words(nest, out, st, w)
+    push_op(code, frame, OpCode::StoreGlobal(id))
 }
 
-fn build_list_words(n: u32) -> Words
-    ensures { λ w. ⌜ w ≡ pairOf 10 n ⌝ }
+pub fn push_build_table(code: &mut [u32], frame: &mut Frame, n: u32)
+    ensures { λ _. ⌜ Pushes (now (code .entry)) (now (frame .entry)) (now (code .exit)) (now (frame .exit)) (pairOf 9 n) ⌝ }
 {
-    op_words(OpCode::BuildList(n))
+    push_op(code, frame, OpCode::BuildTable(n))
 }
 
-pub fn push_build_list(nest: bool, out: &mut [u32], st: Run, n: u32) -> Run
-    ensures { λ s. ⌜ Emits nest (now (out .entry)) st (now (out .exit)) s (pairOf 10 n) ⌝ }
+pub fn push_build_list(code: &mut [u32], frame: &mut Frame, n: u32)
+    ensures { λ _. ⌜ Pushes (now (code .entry)) (now (frame .entry)) (now (code .exit)) (now (frame .exit)) (pairOf 10 n) ⌝ }
 {
-    let w = build_list_words(n);
-    push_words(nest, out, st, w)
+    push_op(code, frame, OpCode::BuildList(n))
 }
 
-fn get_item_words() -> Words
-    ensures { λ w. ⌜ w ≡ pairOf 12 0 ⌝ }
+pub fn push_get_item(code: &mut [u32], frame: &mut Frame)
+    ensures { λ _. ⌜ Pushes (now (code .entry)) (now (frame .entry)) (now (code .exit)) (now (frame .exit)) (pairOf 12 0) ⌝ }
 {
-    op_words(OpCode::GetItem)
+    push_op(code, frame, OpCode::GetItem)
 }
 
-pub fn push_get_item(nest: bool, out: &mut [u32], st: Run) -> Run
-    ensures { λ s. ⌜ Emits nest (now (out .entry)) st (now (out .exit)) s (pairOf 12 0) ⌝ }
+pub fn push_eq(code: &mut [u32], frame: &mut Frame)
+    ensures { λ _. ⌜ Pushes (now (code .entry)) (now (frame .entry)) (now (code .exit)) (now (frame .exit)) (pairOf 24 0) ⌝ }
 {
-    let w = get_item_words();
-    push_words(nest, out, st, w)
+    push_op(code, frame, OpCode::Eq)
 }
 
-fn neg_words() -> Words
-    ensures { λ w. ⌜ w ≡ pairOf 17 0 ⌝ }
+pub fn push_type_check(code: &mut [u32], frame: &mut Frame, ty: u32)
+    ensures { λ _. ⌜ Pushes (now (code .entry)) (now (frame .entry)) (now (code .exit)) (now (frame .exit)) (pairOf 30 ty) ⌝ }
 {
-    op_words(OpCode::Neg)
+    push_op(code, frame, OpCode::TypeCheck(ty))
 }
 
-pub fn push_neg(nest: bool, out: &mut [u32], st: Run) -> Run
-    ensures { λ s. ⌜ Emits nest (now (out .entry)) st (now (out .exit)) s (pairOf 17 0) ⌝ }
+pub fn push_get_len(code: &mut [u32], frame: &mut Frame)
+    ensures { λ _. ⌜ Pushes (now (code .entry)) (now (frame .entry)) (now (code .exit)) (now (frame .exit)) (pairOf 31 0) ⌝ }
 {
-    let w = neg_words();
-    push_words(nest, out, st, w)
+    push_op(code, frame, OpCode::GetLen)
 }
 
-fn not_words() -> Words
-    ensures { λ w. ⌜ w ≡ pairOf 18 0 ⌝ }
+pub fn push_import_glob(code: &mut [u32], frame: &mut Frame)
+    ensures { λ _. ⌜ Pushes (now (code .entry)) (now (frame .entry)) (now (code .exit)) (now (frame .exit)) (pairOf 34 0) ⌝ }
 {
-    op_words(OpCode::Not)
+    push_op(code, frame, OpCode::ImportGlob)
 }
 
-pub fn push_not(nest: bool, out: &mut [u32], st: Run) -> Run
-    ensures { λ s. ⌜ Emits nest (now (out .entry)) st (now (out .exit)) s (pairOf 18 0) ⌝ }
+pub fn push_iter(code: &mut [u32], frame: &mut Frame)
+    ensures { λ _. ⌜ Pushes (now (code .entry)) (now (frame .entry)) (now (code .exit)) (now (frame .exit)) (pairOf 35 0) ⌝ }
 {
-    let w = not_words();
-    push_words(nest, out, st, w)
+    push_op(code, frame, OpCode::Iter)
 }
 
-fn eq_words() -> Words
-    ensures { λ w. ⌜ w ≡ pairOf 24 0 ⌝ }
+pub fn push_call(code: &mut [u32], frame: &mut Frame, n: u32)
+    ensures { λ _. ⌜ Pushes (now (code .entry)) (now (frame .entry)) (now (code .exit)) (now (frame .exit)) (pairOf 36 n) ⌝ }
 {
-    op_words(OpCode::Eq)
+    push_op(code, frame, OpCode::Call(n))
 }
 
-pub fn push_eq(nest: bool, out: &mut [u32], st: Run) -> Run
-    ensures { λ s. ⌜ Emits nest (now (out .entry)) st (now (out .exit)) s (pairOf 24 0) ⌝ }
+pub fn push_return(code: &mut [u32], frame: &mut Frame)
+    ensures { λ _. ⌜ Pushes (now (code .entry)) (now (frame .entry)) (now (code .exit)) (now (frame .exit)) (pairOf 37 0) ⌝ }
 {
-    let w = eq_words();
-    push_words(nest, out, st, w)
+    push_op(code, frame, OpCode::Return)
 }
 
-fn type_check_words(n: u32) -> Words
-    ensures { λ w. ⌜ w ≡ pairOf 30 n ⌝ }
+pub fn push_return_call(code: &mut [u32], frame: &mut Frame, n: u32)
+    ensures { λ _. ⌜ Pushes (now (code .entry)) (now (frame .entry)) (now (code .exit)) (now (frame .exit)) (pairOf 38 n) ⌝ }
 {
-    op_words(OpCode::TypeCheck(n))
+    push_op(code, frame, OpCode::ReturnCall(n))
 }
 
-pub fn push_type_check(nest: bool, out: &mut [u32], st: Run, n: u32) -> Run
-    ensures { λ s. ⌜ Emits nest (now (out .entry)) st (now (out .exit)) s (pairOf 30 n) ⌝ }
+pub fn push_load_locals(code: &mut [u32], frame: &mut Frame)
+    ensures { λ _. ⌜ Pushes (now (code .entry)) (now (frame .entry)) (now (code .exit)) (now (frame .exit)) (pairOf 39 0) ⌝ }
 {
-    let w = type_check_words(n);
-    push_words(nest, out, st, w)
+    push_op(code, frame, OpCode::LoadLocals)
 }
 
-fn get_len_words() -> Words
-    ensures { λ w. ⌜ w ≡ pairOf 31 0 ⌝ }
+pub fn push_jump(code: &mut [u32], frame: &mut Frame, label: LabelId)
+    ensures { λ _. ⌜ Pushes (now (code .entry)) (now (frame .entry)) (now (code .exit)) (now (frame .exit)) (pairOf 40 (label .0)) ⌝ }
 {
-    op_words(OpCode::GetLen)
+    push_op(code, frame, OpCode::Jump(label))
 }
 
-pub fn push_get_len(nest: bool, out: &mut [u32], st: Run) -> Run
-    ensures { λ s. ⌜ Emits nest (now (out .entry)) st (now (out .exit)) s (pairOf 31 0) ⌝ }
+pub fn push_jump_back_edge(code: &mut [u32], frame: &mut Frame, label: LabelId)
+    ensures { λ _. ⌜ Pushes (now (code .entry)) (now (frame .entry)) (now (code .exit)) (now (frame .exit)) (pairOf 41 (label .0)) ⌝ }
 {
-    let w = get_len_words();
-    push_words(nest, out, st, w)
+    push_op(code, frame, OpCode::JumpBackEdge(label))
 }
 
-fn import_glob_words() -> Words
-    ensures { λ w. ⌜ w ≡ pairOf 34 0 ⌝ }
+pub fn push_break(code: &mut [u32], frame: &mut Frame, label: LabelId)
+    ensures { λ _. ⌜ Pushes (now (code .entry)) (now (frame .entry)) (now (code .exit)) (now (frame .exit)) (pairOf 42 (label .0)) ⌝ }
 {
-    op_words(OpCode::ImportGlob)
+    push_op(code, frame, OpCode::Break(label))
 }
 
-pub fn push_import_glob(nest: bool, out: &mut [u32], st: Run) -> Run
-    ensures { λ s. ⌜ Emits nest (now (out .entry)) st (now (out .exit)) s (pairOf 34 0) ⌝ }
+pub fn push_continue(code: &mut [u32], frame: &mut Frame, label: LabelId)
+    ensures { λ _. ⌜ Pushes (now (code .entry)) (now (frame .entry)) (now (code .exit)) (now (frame .exit)) (pairOf 43 (label .0)) ⌝ }
 {
-    let w = import_glob_words();
-    push_words(nest, out, st, w)
+    push_op(code, frame, OpCode::Continue(label))
 }
 
-fn iter_words() -> Words
-    ensures { λ w. ⌜ w ≡ pairOf 35 0 ⌝ }
+pub fn push_jump_pop_if_null(code: &mut [u32], frame: &mut Frame, label: LabelId)
+    ensures { λ _. ⌜ Pushes (now (code .entry)) (now (frame .entry)) (now (code .exit)) (now (frame .exit)) (pairOf 44 (label .0)) ⌝ }
 {
-    op_words(OpCode::Iter)
+    push_op(code, frame, OpCode::JumpPopIfNull(label))
 }
 
-pub fn push_iter(nest: bool, out: &mut [u32], st: Run) -> Run
-    ensures { λ s. ⌜ Emits nest (now (out .entry)) st (now (out .exit)) s (pairOf 35 0) ⌝ }
+pub fn push_pop_jump_if_false(code: &mut [u32], frame: &mut Frame, label: LabelId)
+    ensures { λ _. ⌜ Pushes (now (code .entry)) (now (frame .entry)) (now (code .exit)) (now (frame .exit)) (pairOf 46 (label .0)) ⌝ }
 {
-    let w = iter_words();
-    push_words(nest, out, st, w)
+    push_op(code, frame, OpCode::PopJumpIfFalse(label))
 }
 
-fn call_words(n: u32) -> Words
-    ensures { λ w. ⌜ w ≡ pairOf 36 n ⌝ }
+pub fn push_jump_if_true_or_pop(code: &mut [u32], frame: &mut Frame, label: LabelId)
+    ensures { λ _. ⌜ Pushes (now (code .entry)) (now (frame .entry)) (now (code .exit)) (now (frame .exit)) (pairOf 47 (label .0)) ⌝ }
 {
-    op_words(OpCode::Call(n))
+    push_op(code, frame, OpCode::JumpIfTrueOrPop(label))
 }
 
-pub fn push_call(nest: bool, out: &mut [u32], st: Run, n: u32) -> Run
-    ensures { λ s. ⌜ Emits nest (now (out .entry)) st (now (out .exit)) s (pairOf 36 n) ⌝ }
+pub fn push_jump_if_false_or_pop(code: &mut [u32], frame: &mut Frame, label: LabelId)
+    ensures { λ _. ⌜ Pushes (now (code .entry)) (now (frame .entry)) (now (code .exit)) (now (frame .exit)) (pairOf 48 (label .0)) ⌝ }
 {
-    let w = call_words(n);
-    push_words(nest, out, st, w)
+    push_op(code, frame, OpCode::JumpIfFalseOrPop(label))
 }
 
-fn return_words() -> Words
-    ensures { λ w. ⌜ w ≡ pairOf 37 0 ⌝ }
+pub fn push_register_handler(code: &mut [u32], frame: &mut Frame, label: LabelId)
+    ensures { λ _. ⌜ Pushes (now (code .entry)) (now (frame .entry)) (now (code .exit)) (now (frame .exit)) (pairOf 49 (label .0)) ⌝ }
 {
-    op_words(OpCode::Return)
+    push_op(code, frame, OpCode::RegisterHandler(label))
 }
 
-pub fn push_return(nest: bool, out: &mut [u32], st: Run) -> Run
-    ensures { λ s. ⌜ Emits nest (now (out .entry)) st (now (out .exit)) s (pairOf 37 0) ⌝ }
+pub fn push_check_effect(code: &mut [u32], frame: &mut Frame, n: u32)
+    ensures { λ _. ⌜ Pushes (now (code .entry)) (now (frame .entry)) (now (code .exit)) (now (frame .exit)) (pairOf 50 n) ⌝ }
 {
-    let w = return_words();
-    push_words(nest, out, st, w)
+    push_op(code, frame, OpCode::CheckEffect(n))
 }
 
-fn return_call_words(n: u32) -> Words
-    ensures { λ w. ⌜ w ≡ pairOf 38 n ⌝ }
+pub fn push_mark_add_stack_size(code: &mut [u32], frame: &mut Frame, n: u32)
+    ensures { λ _. ⌜ Pushes (now (code .entry)) (now (frame .entry)) (now (code .exit)) (now (frame .exit)) (pairOf 51 n) ⌝ }
 {
-    op_words(OpCode::ReturnCall(n))
-}
-
-pub fn push_return_call(nest: bool, out: &mut [u32], st: Run, n: u32) -> Run
-    ensures { λ s. ⌜ Emits nest (now (out .entry)) st (now (out .exit)) s (pairOf 38 n) ⌝ }
-{
-    let w = return_call_words(n);
-    push_words(nest, out, st, w)
-}
-
-fn load_locals_words() -> Words
-    ensures { λ w. ⌜ w ≡ pairOf 39 0 ⌝ }
-{
-    op_words(OpCode::LoadLocals)
-}
-
-pub fn push_load_locals(nest: bool, out: &mut [u32], st: Run) -> Run
-    ensures { λ s. ⌜ Emits nest (now (out .entry)) st (now (out .exit)) s (pairOf 39 0) ⌝ }
-{
-    let w = load_locals_words();
-    push_words(nest, out, st, w)
-}
-
-fn jump_words(label: LabelId) -> Words
-    ensures { λ w. ⌜ w ≡ pairOf 40 (label .0) ⌝ }
-{
-    op_words(OpCode::Jump(label))
-}
-
-pub fn push_jump(nest: bool, out: &mut [u32], st: Run, label: LabelId) -> Run
-    ensures { λ s. ⌜ Emits nest (now (out .entry)) st (now (out .exit)) s (pairOf 40 (label .0)) ⌝ }
-{
-    let w = jump_words(label);
-    push_words(nest, out, st, w)
-}
-
-fn jump_back_edge_words(label: LabelId) -> Words
-    ensures { λ w. ⌜ w ≡ pairOf 41 (label .0) ⌝ }
-{
-    op_words(OpCode::JumpBackEdge(label))
-}
-
-pub fn push_jump_back_edge(nest: bool, out: &mut [u32], st: Run, label: LabelId) -> Run
-    ensures { λ s. ⌜ Emits nest (now (out .entry)) st (now (out .exit)) s (pairOf 41 (label .0)) ⌝ }
-{
-    let w = jump_back_edge_words(label);
-    push_words(nest, out, st, w)
-}
-
-fn jump_pop_if_null_words(label: LabelId) -> Words
-    ensures { λ w. ⌜ w ≡ pairOf 44 (label .0) ⌝ }
-{
-    op_words(OpCode::JumpPopIfNull(label))
-}
-
-pub fn push_jump_pop_if_null(nest: bool, out: &mut [u32], st: Run, label: LabelId) -> Run
-    ensures { λ s. ⌜ Emits nest (now (out .entry)) st (now (out .exit)) s (pairOf 44 (label .0)) ⌝ }
-{
-    let w = jump_pop_if_null_words(label);
-    push_words(nest, out, st, w)
-}
-
-fn pop_jump_if_false_words(label: LabelId) -> Words
-    ensures { λ w. ⌜ w ≡ pairOf 46 (label .0) ⌝ }
-{
-    op_words(OpCode::PopJumpIfFalse(label))
-}
-
-pub fn push_pop_jump_if_false(nest: bool, out: &mut [u32], st: Run, label: LabelId) -> Run
-    ensures { λ s. ⌜ Emits nest (now (out .entry)) st (now (out .exit)) s (pairOf 46 (label .0)) ⌝ }
-{
-    let w = pop_jump_if_false_words(label);
-    push_words(nest, out, st, w)
-}
-
-fn jump_if_true_or_pop_words(label: LabelId) -> Words
-    ensures { λ w. ⌜ w ≡ pairOf 47 (label .0) ⌝ }
-{
-    op_words(OpCode::JumpIfTrueOrPop(label))
-}
-
-pub fn push_jump_if_true_or_pop(nest: bool, out: &mut [u32], st: Run, label: LabelId) -> Run
-    ensures { λ s. ⌜ Emits nest (now (out .entry)) st (now (out .exit)) s (pairOf 47 (label .0)) ⌝ }
-{
-    let w = jump_if_true_or_pop_words(label);
-    push_words(nest, out, st, w)
-}
-
-fn jump_if_false_or_pop_words(label: LabelId) -> Words
-    ensures { λ w. ⌜ w ≡ pairOf 48 (label .0) ⌝ }
-{
-    op_words(OpCode::JumpIfFalseOrPop(label))
-}
-
-pub fn push_jump_if_false_or_pop(nest: bool, out: &mut [u32], st: Run, label: LabelId) -> Run
-    ensures { λ s. ⌜ Emits nest (now (out .entry)) st (now (out .exit)) s (pairOf 48 (label .0)) ⌝ }
-{
-    let w = jump_if_false_or_pop_words(label);
-    push_words(nest, out, st, w)
-}
-
-fn register_handler_words(label: LabelId) -> Words
-    ensures { λ w. ⌜ w ≡ pairOf 49 (label .0) ⌝ }
-{
-    op_words(OpCode::RegisterHandler(label))
-}
-
-pub fn push_register_handler(nest: bool, out: &mut [u32], st: Run, label: LabelId) -> Run
-    ensures { λ s. ⌜ Emits nest (now (out .entry)) st (now (out .exit)) s (pairOf 49 (label .0)) ⌝ }
-{
-    let w = register_handler_words(label);
-    push_words(nest, out, st, w)
-}
-
-fn check_effect_words(n: u32) -> Words
-    ensures { λ w. ⌜ w ≡ pairOf 50 n ⌝ }
-{
-    op_words(OpCode::CheckEffect(n))
-}
-
-pub fn push_check_effect(nest: bool, out: &mut [u32], st: Run, n: u32) -> Run
-    ensures { λ s. ⌜ Emits nest (now (out .entry)) st (now (out .exit)) s (pairOf 50 n) ⌝ }
-{
-    let w = check_effect_words(n);
-    push_words(nest, out, st, w)
-}
-
-fn mark_add_stack_size_words(n: u32) -> Words
-    ensures { λ w. ⌜ w ≡ pairOf 51 n ⌝ }
-{
-    op_words(OpCode::MarkAddStackSize(n))
-}
-
-pub fn push_mark_add_stack_size(nest: bool, out: &mut [u32], st: Run, n: u32) -> Run
-    ensures { λ s. ⌜ Emits nest (now (out .entry)) st (now (out .exit)) s (pairOf 51 n) ⌝ }
-{
-    let w = mark_add_stack_size_words(n);
-    push_words(nest, out, st, w)
+    push_op(code, frame, OpCode::MarkAddStackSize(n))
 }

@@ -2,8 +2,8 @@
 use libc::STDERR_FILENO;
 use libc::STDIN_FILENO;
 use libc::STDOUT_FILENO;
+use lister::fronts::front_bytes;
 use lister::list::list_all;
-use lister::part::front_bytes;
 
 fn write(out: &[u8; 1048576], printed: usize) {
     if !io::write_all(STDOUT_FILENO, front_bytes(out, printed)) {

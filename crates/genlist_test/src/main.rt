@@ -1,8 +1,8 @@
 // Replays texts through genlist's work, one after another between lines `====`: prints the answer to each, with the same line between.
 use libc::STDIN_FILENO;
 use libc::STDOUT_FILENO;
+use lister::fronts::front_bytes;
 use lister::list::list_all;
-use lister::part::front_bytes;
 
 fn write(out: &[u8; 1048576], printed: usize) {
     io::write_all(STDOUT_FILENO, front_bytes(out, printed));

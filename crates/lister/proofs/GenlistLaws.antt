@@ -9,7 +9,7 @@ use lib.Dec.{ltb}
 use borrow.Author.Tests.{lt-ltb, le-ltb}
 use Rattle.pool.specs.NameWords.{over}
 use Rattle.rules.specs.Out.{Out}
-use Rattle.codegen.specs.Call.{semantic, answerOf, outOf, lists}
+use Rattle.codegen.specs.Call.{answerOf, outOf, lists}
 use Rattle.codegen.specs.declared.call.Answer.{Answer}
 use Rattle.listing.specs.declared.read.Reading.{Reading}
 use Rattle.listing.specs.declared.read.Reading.the-variants as reading

@@ -5,10 +5,10 @@ use Prim.Native.Nat.{ℕ, _+_}
 use lib.ListN.{length, take, replicate}
 use lib.Dec.{ltb, eqb}
 use Rattle.tables.specs.Refusal.{numberOf, placeOf}
-use Rattle.pool.specs.Names.{Semantic}
+use Rattle.pool.specs.Names.{Semantic, semantic}
 use Rattle.pool.specs.NameWords.{over}
 use Rattle.rules.specs.Out.{Out}
-use Rattle.codegen.specs.Call.{semantic, answerOf, outOf, lists}
+use Rattle.codegen.specs.Call.{answerOf, outOf, lists}
 use Rattle.codegen.specs.declared.call.Answer.{Answer}
 use Rattle.codegen.specs.declared.call.Answer.the-variants.{Listing, Refused}
 use Rattle.listing.specs.declared.read.Sizes.{Sizes}
@@ -25,9 +25,9 @@ blank = lists (replicate 8960 0) (replicate 1260 0) (replicate 420 0) (replicate
 
 -- the outputs after the call
 abbrev pub filled : Out → Out → Out
-filled new old =
-    lists (over (new .markers) (old .markers)) (over (new .constants) (old .constants)) (over (new .names-out) (old .names-out))
-    (over (new .errors) (old .errors)) (over (new .lines) (old .lines))
+filled new lent =
+    lists (over (new .markers) (lent .markers)) (over (new .constants) (lent .constants)) (over (new .names-out) (lent .names-out))
+    (over (new .errors) (lent .errors)) (over (new .lines) (lent .lines))
 
 -- a buffer of so many bytes holds what is printed of any text
 abbrev pub most : ℕ
@@ -35,8 +35,8 @@ most = 1048576
 
 -- a listing, or "`refusal place`"
 abbrev pub answerText : (symbols records : List ℕ) → Out → Answer → List ℕ
-answerText symbols records o (Listing met told forecast) =
-    listingText symbols records (o .markers) (o .constants) (o .names-out) (o .errors) (o .lines) met told
+answerText symbols records o (Listing met count forecast) =
+    listingText symbols records (o .markers) (o .constants) (o .names-out) (o .errors) (o .lines) met count
 answerText symbols records o (Refused why) = refusalText (numberOf why) (placeOf why)
 
 -- seven lists as tables

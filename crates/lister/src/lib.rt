@@ -1,3 +1,3 @@
 // genlist's work between its input and its output.
+pub mod fronts;
 pub mod list;
-pub mod part;

@@ -1,7 +1,7 @@
 // genlist's work between its input and its output: the tables of a text are read, the call is made, its answer is printed.
-use crate::part::front;
-use crate::part::front_bytes;
-use crate::part::overlong;
+use crate::fronts::front;
+use crate::fronts::front_bytes;
+use crate::fronts::overlong;
 use codegen::call::Answer;
 use codegen::call::gen_code;
 use listing::print::input;
@@ -36,7 +36,7 @@ fn answered(
     match answer {
         Answer::Listing {
             lines: met,
-            errors: told,
+            errors: count,
             forecast: _,
         } => listing(
             out,
@@ -48,7 +48,7 @@ fn answered(
             errors,
             lines,
             met,
-            told,
+            count,
         ),
         Answer::Refused(why) => refusal(out, number(why), place(why)),
     }

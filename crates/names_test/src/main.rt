@@ -3,10 +3,10 @@ ghost use Prim.Native.Nat.{_≤_, _<_};
 ghost use lib.ListN.{length};
 use libc::STDIN_FILENO;
 use libc::STDOUT_FILENO;
-use pool::lookup::span_of;
-use pool::lookup::word;
-use pool::names::Named;
-use pool::names::names;
+use pool::resolve::resolve;
+use pool::spans::span_of;
+use tables::semantic::entry;
+use tables::semantic::pairs;
 
 struct Read {
     value: u32,
@@ -86,9 +86,9 @@ fn print(n: u32, after: &[u8]) {
 fn print_entry(entries: &[u32], e: usize) {
     if e < entries.len() {
         let i = e * 3;
-        print(word(entries, i), b" ");
-        print(word(entries, i + 1), b" ");
-        print(word(entries, i + 2), b"\n");
+        print(entry(entries, i), b" ");
+        print(entry(entries, i + 1), b" ");
+        print(entry(entries, i + 2), b"\n");
     }
 }
 
@@ -121,21 +121,27 @@ fn print_functions(entries: &[u32], spans: &[u32], size: usize) {
     }
 }
 
-fn make(symbols: &[u32], functions: &[u32], members: &[u32]) {
+fn make(recs: &[u32], symbols: &[u32], references: &[u32], functions: &[u32], members: &[u32]) {
     let mut entries = [0u32; 256];
     let mut spans = [0u32; 128];
-    match names(symbols, functions, members, &mut entries, &mut spans) {
-        Named::Made => print_functions(&entries, &spans, functions.len() / 2),
-        Named::Short => {
-            io::write_all(STDOUT_FILENO, b"short\n");
-        }
-    }
+    let mut notes = [0u32; pool::notes::SIZE];
+    resolve(
+        recs,
+        symbols,
+        references,
+        functions,
+        members,
+        &mut entries,
+        &mut spans,
+        &mut notes,
+    );
+    print_functions(&entries, &spans, pairs(functions));
 }
 
 fn size(words: &[u32], i: usize) -> usize
     ensures { λ n. ⌜ n < 4294967296 ⌝ }
 {
-    word(words, i) as usize
+    entry(words, i) as usize
 }
 
 // A part of the words, none where it is not whole.
@@ -156,18 +162,24 @@ fn case(words: &[u32], from: usize) -> usize {
         return from;
     }
     let symbols = size(words, from + 2);
+    let references = size(words, from + 3);
     let functions = size(words, from + 4);
     let members = size(words, from + 5);
+    let recs = size(words, from + 6);
     let t3 = from + 7 + size(words, from) + size(words, from + 1);
-    let t5 = t3 + symbols + size(words, from + 3);
+    let t4 = t3 + symbols;
+    let t5 = t4 + references;
     let t6 = t5 + functions;
     let t7 = t6 + members;
+    let end = t7 + recs;
     make(
+        part(words, t7, recs),
         part(words, t3, symbols),
+        part(words, t4, references),
         part(words, t5, functions),
         part(words, t6, members),
     );
-    t7 + size(words, from + 6)
+    end
 }
 
 fn replay(words: &[u32]) {

@@ -1,302 +1,214 @@
--- The loops over a Case's patterns and over the Cases. Assumes nothing.
-use mathlib.Core.Path.{_≡_, refl, sym, ap, ap₂, subst, _∙_}
+-- The steps of a Case's patterns, and of all Cases, are their run. Assumes nothing.
+use mathlib.Core.Path.{_≡_, refl, sym, ap, _∙_}
 use mathlib.Core.Bool.{Bool, true, false, cond}
-use mathlib.Core.List.{List, [], _∷_}
-use mathlib.Core.Logic.{inl, inr}
-use Prim.Native.Nat.{ℕ, suc, _+_, _-_, _≤_, _<_}
+use mathlib.Core.List.{List, [], _∷_, _++_}
+use Prim.Native.Nat.{ℕ, zero, suc, _+_, _-_, _≤_, _<_}
 use native.Mathlib.Omega.{arith}
 use lib.ListN.{length, getD, length-append}
-use Rattle.tables.specs.Record.{Words, word, words, is-function}
-use Rattle.tables.specs.Forest.{Nodes, bare, node, first, next, forest, own-tree}
-use Rattle.tables.proofs.ForestLaws.{Onward, first-onward, next-onward}
-use Rattle.pool.specs.Names.{Semantic}
+use Rattle.tables.specs.Record.{Words, words, is-function}
+use Rattle.tables.specs.Forest.{Forest, none, tree, Nodes, bare, first, next, forest, children, own-tree}
+use Rattle.tables.proofs.ForestLaws.{grown as by-records}
 use Rattle.rules.specs.declared.Flow.the-variants.{Go}
-use Rattle.rules.specs.Step.{Step}
-use Rattle.rules.specs.Patterns.{pattern-labels, case-tests, case-labels, cases-tests}
-use Rattle.rules.specs.Run.{State, flow}
-use Rattle.emit.specs.Sim.{cap, more, lent, Scoped, Outs, Rep}
-use Rattle.emit.specs.Does.{nth, child, reach, part}
-use Rattle.emit.specs.declared.run.Run.{Run}
-use Rattle.emit.proofs.Basics.{more-cap}
-use Rattle.emit.proofs.PartLaws.{nth-next, width-some}
-use Rattle.pattern.specs.declared.place.Place.{Place}
-use Rattle.pattern.specs.Shapes.{kids, own-kids, topOf}
-use Rattle.pattern.specs.Tests.{Run-of, Past, Tries, CaseTests, Tests, run-of}
-use Rattle.pattern.proofs.CountLaws.{many, own-kids-forest, own-tree-record, own-tree-none}
-use Rattle.pattern.proofs.PastLaws.{append-none, getD-before, then-past, before, to-past, from-past}
-use Rattle.pattern.proofs.TurnLaws.{child-some}
+use Rattle.rules.specs.Marker.{Jump, Copy, Pop, Label, To, Do, mark}
+use Rattle.rules.specs.Step.{ChildPath, Step, push-op, get-label, place, jump, width}
+use Rattle.rules.specs.Patterns.{parts, grown, pattern-labels, cleanup, pattern-steps, inside-steps, test-steps, case-tests, case-labels, cases-tests}
+use Rattle.rules.specs.Run.{State, flow, labels, emit, bump, exec}
+use Rattle.emit.specs.Rep.{Walk, Lent}
+use Rattle.emit.specs.Does.{nth, doing}
+use Rattle.emit.proofs.Basics.{no-bump}
+use Rattle.plain.proofs.GoLaws.{env-kept}
+use Rattle.pattern.specs.Tests.{labels-visited, pattern-run, inside-run, cleanup-run, test-run, case-run, cases-run}
+use Rattle.pattern.proofs.HeldLaws.{
+  Quiet,
+  quiet-none,
+  quiet-emit,
+  quiet-row,
+  still-going,
+  same-if,
+  Held,
+  held-quiet,
+  held-more,
+  Goes,
+  Holds,
+  quiet-goes,
+  quiet-holds,
+  then-goes,
+  then-holds,
+  from-goes,
+}
+use Rattle.pattern.proofs.PatternLaws.{visited-more, own-labels, Link, link-at, link-next, Leads, leads-child, pop-holds, pattern-goes}
 
--- ---- steps that name the number of labels taken so far
-
-pub record Numbered (g : Run-of) (from : List Step → List Step) (env : List ℕ) (A : State) (to : ℕ → List Step → List Step) (o : Outs) (s : Run) : Type 0 where
-  pub m : ℕ
-  pub past : Past g from env A (to m) o s
-  pub long : length (past .names) ≡ m
-
-pub record Counted (g : Run-of) (from : List Step → List Step) (env : List ℕ) (A : State) (to : ℕ → List Step → List Step) (rest total : ℕ) (o : Outs) (s : Run) :
-    Type 0 where
-  pub sofar : Numbered g from env A to o s
-  pub left : sofar .m + rest ≡ total
-
-module _ {g : Run-of} {from to : List Step → List Step} {env : List ℕ} {A : State} {o : Outs} {s : Run} (p : Past g from env A to o s) where
-  -- names taken before keep their places
-  pub kept-name : (i y : ℕ) → i < length env → (flow A ≡ Go → getD env i 0 ≡ y) → flow (p .state) ≡ Go → getD (p .names) i 0 ≡ y
-  kept-name i y lt h e = ap (λ (ns : List ℕ). getD ns i 0) (p .longer) ∙ getD-before env (p .more) i lt ∙ h (p .still e)
+module _ {e : Lent} {c : Walk} {r : ℕ} {from : List Step → List Step} {env : List ℕ} {A B : State} (p : Goes e c r from env A B) where
+  -- names given before keep their places
+  pub kept-name : (i y : ℕ) → i < length env → (flow A ≡ Go → getD env i 0 ≡ y) → flow B ≡ Go → getD (p .names) i 0 ≡ y
+  kept-name i y lt h g = ap (λ (ns : List ℕ). getD ns i 0) (p .longer) ∙ env-kept env (p .more) i lt ∙ h (p .still g)
 
   pub not-shorter : length env ≤ length (p .names)
   not-shorter = let z : length (p .names) ≡ length env + length (p .more) = ap length (p .longer) ∙ length-append env (p .more) in omega arith
 
-pub top-deep : (at : Place) (f l r : ℕ) → at ≡ topOf f l → 1 < r → at .depth + 1 < r
-top-deep at f l r e lt = let z : at .depth ≡ 0 = ap (λ (x : Place). x .depth) e in omega arith
+module _ (e : Lent) (c : Walk) (r : ℕ) where
+  abbrev R : List ℕ
+  R = e .records
 
--- ---- the patterns of one Case: those before the record r′, its child k, are tested
+  -- ---- the clean-up labels
 
-pub record CaseTurn (recs symbols refs entries spans : List ℕ) (nest : Bool) (f c l n : ℕ) (o : Outs) (s : Run) (r : ℕ) (o′ : Outs) (s′ : Run) (k r′ : ℕ) : Type 0 where
-  pub range : k ≤ n
-  pub link : Onward recs c r′
-  pub child : (r′ ≡ 0 → ⊥) → r′ ≡ nth recs k (first recs c)
-  pub code : length (o′ .code) ≡ length (o .code)
-  pub consts : length (o′ .consts) ≡ length (o .consts)
-  pub work : (t : Semantic) (back : List ℕ) → Scoped t (lent recs symbols refs entries spans back) → (o₀ : Outs) (A : State) (env : List ℕ) (q m y j : ℕ)
-      → nth recs j (first recs q) ≡ c → m ≡ length env → l ≡ cap y → (flow A ≡ Go → getD env j 0 ≡ y) → j < m → Rep recs nest o₀ A o s
-      → Counted (run-of recs nest t f q o₀) (case-tests m j j 0 n (own-tree (forest recs r))) env A
-      (λ m′ is. case-tests m′ j j k (n - k) (own-tree (forest recs r′)) is) (case-labels (n - k) (own-tree (forest recs r′)))
-      (m + case-labels n (own-tree (forest recs r))) o′ s′
+  place-holds : (m h x k i y : ℕ) (env : List ℕ) (A : State) → i ≡ m + k → y ≡ x + k → k < h → Held env m h x A
+      → Holds e c r (λ is. place i ∷ is) env A (emit (mark r (Label y)) A) m h x
+  unfolding doing exec
+  place-holds m h x k i y env A ei ey lt hd =
+      quiet-holds (emit (mark r (Label y))) (quiet-emit _)
+      (λ is. ap (doing e c r is env) (same-if (λ n. emit (mark r (Label n))) (λ n. quiet-emit _ .rests) (getD env i 0) y A
+      (λ g. ap (λ (z : ℕ). getD env z 0) ei ∙ hd .named g k lt ∙ sym ey))) hd
 
-kids-link : (recs : List ℕ) (c r : ℕ) → r ≡ kids recs c → Onward recs c r × ((r ≡ 0 → ⊥) → r ≡ nth recs 0 (first recs c))
-kids-link recs c r e = go (is-function (words recs c)) e
-  where
-    go : (b : Bool) → r ≡ cond b 0 (first recs c) → Onward recs c r × ((r ≡ 0 → ⊥) → r ≡ nth recs 0 (first recs c))
-    go true q = (inl q, λ ne. absurd (ne q))
-    go false q = (subst (Onward recs c) (sym q) (first-onward recs c), λ ne. q)
+  cleanup-holds : (n m h x : ℕ) (env : List ℕ) (A : State) → n < h → Held env m h x A → Holds e c r (cleanup m (suc n)) env A (cleanup-run r x n A) m h x
+  unfolding cleanup-run
+  cleanup-holds zero m h x env A lt hd = place-holds m h x 0 m x env A (omega arith) (omega arith) lt hd
+  cleanup-holds (suc n) m h x env A lt hd =
+      let a = place-holds m h x (suc n) (m + suc n) (x + suc n) env A refl refl lt hd in
+      let b = pop-holds e c r (a .past .names) (emit (mark r (Label (x + suc n))) A) (a .held) in
+      then-holds a (then-holds b (cleanup-holds n m h x (b .past .names) _ (omega arith) (b .held)))
 
-tests-zero : (m i j c : ℕ) (k : Nodes) (is : List Step) → case-tests m i j c 0 k is ≡ is
-tests-zero m i j c bare is = refl
-tests-zero m i j c (node w k s) is = refl
+  -- ---- one pattern
 
-labels-zero : (k : Nodes) → case-labels 0 k ≡ 0
-labels-zero bare = refl
-labels-zero (node w k s) = refl
+  -- and the names then are n
+  pub record Ends (from : List Step → List Step) (env : List ℕ) (A B : State) (n : ℕ) : Type 0 where
+    pub past : Goes e c r from env A B
+    pub long : length (past .names) ≡ n
 
-module _ (recs symbols refs entries spans : List ℕ) (nest : Bool) {f c l n : ℕ} {o : Outs} {s : Run} {r : ℕ} where
-  pub case-holds : r ≡ kids recs c → CaseTurn recs symbols refs entries spans nest f c l n o s r o s 0 r
-  case-holds e =
-      let z : n ≡ n - 0 = omega arith in
-      record {
-        range = omega arith;
-        link = kids-link recs c r e .0;
-        child = kids-link recs c r e .1;
-        code = refl;
-        consts = refl;
-        work = λ t back sc o₀ A env q m y j ej em el named lt rep.
-            record {
-              sofar = record {
-                m = m;
-                past = record {
-                  names = env;
-                  state = A;
-                  more = [];
-                  longer = append-none env;
-                  still = λ g. g;
-                  rep = rep;
-                  goes = λ is. ap (λ (i : ℕ). part recs nest t f q (case-tests m j j 0 i (own-tree (forest recs r)) is) env A) z;
-                };
-                long = sym em;
-              };
-              left = ap (λ (i : ℕ). m + case-labels i (own-tree (forest recs r))) (sym z);
-            };
-      }
-
-  module _ {o′ : Outs} {s′ : Run} {k r′ : ℕ} (turn : CaseTurn recs symbols refs entries spans nest f c l n o s r o′ s′ k r′) where
-    pub pattern-large : 0 < c → (r′ ≡ 0 → ⊥) → 1 < r′
-    pattern-large lt ne = go (turn .link)
-      where
-        go : Onward recs c r′ → 1 < r′
-        go (inl e) = absurd (ne e)
-        go (inr (a, b)) = omega arith
-
-    onward : (x : ℕ) → x ≡ next recs r′ → (r′ ≡ 0 → ⊥) → Onward recs c x
-    onward x e ne = subst (Onward recs c) (sym e) (go (turn .link) (next-onward recs r′))
-      where
-        go : Onward recs c r′ → Onward recs r′ (next recs r′) → Onward recs c (next recs r′)
-        go (inl z) b = absurd (ne z)
-        go (inr a) (inl z) = inl z
-        go (inr (a, b)) (inr (u, v)) = inr (omega arith, v)
-
-    -- one pattern more
-    pub case-again : {o″ : Outs} {s″ : Run} {r″ : ℕ} → 0 < c → k < n → (r′ ≡ 0 → ⊥) → Tries recs symbols refs entries spans nest o′ s′ o″ s″ f r′ l → r″ ≡ next recs r′
-        → length (o″ .code) ≡ length (o′ .code) → length (o″ .consts) ≡ length (o′ .consts)
-        → CaseTurn recs symbols refs entries spans nest f c l n o s r o″ s″ (k + 1) r″
-    case-again {r″ = r″} pos lt ne v e zo zc =
+  module _ (j : ℕ) where
+    -- the pattern q of the Case that is child j, whose block's label stands at place j of the names
+    test-ends : (m y q : ℕ) (js : ChildPath) (env : List ℕ) (A : State) → Leads e c r j js q → (q ≡ 0 → ⊥) → m ≡ length env → j < m → (flow A ≡ Go → getD env j 0 ≡ y)
+        → let w = words R q in let k = children R q in
+        Ends (test-steps m j (j ∷ js) w (cond (is-function w) bare (own-tree k))) env A (test-run (e .notes) r y q w k A)
+        (m + pattern-labels w (cond (is-function w) bare (own-tree k)))
+    unfolding doing exec test-run
+    test-ends m y q js env A p ne em lt named =
         record {
-          range = omega arith;
-          link = onward r″ e ne;
-          child = λ _. e ∙ ap (next recs) (turn .child ne) ∙ nth-next recs k (first recs c) ∙ ap (λ (i : ℕ). nth recs i (first recs c)) up;
-          code = zo ∙ turn .code;
-          consts = zc ∙ turn .consts;
-          work = λ t back sc o₀ A env q m y j ej em el named jm rep.
-              let w = turn .work t back sc o₀ A env q m y j ej em el named jm rep in
-              let p = w .sofar .past in
-              let m₁ = w .sofar .m in
-              let long : length (p .names) ≡ m₁ = w .sofar .long in
-              let grew : length env ≤ length (p .names) = not-shorter p in
-              let there : reach recs (nth recs j (first recs q)) (k ∷ []) ≡ r′
-              = ap (λ (x : ℕ). child recs x k) ej ∙ child-some recs c k (λ z. omega arith) ∙ sym (turn .child ne) in
-              let u = v .tries t back sc o₀ (p .state) (p .names) q m₁ j y j (k ∷ []) there (sym long) el (kept-name p j y (omega arith) named) (omega arith) (p .rep) in
-              let after : List Step → List Step
-              = λ is. case-tests (m₁ + pattern-labels W K) j j (suc k) (n - (k + 1)) (own-tree (forest recs (next recs r′))) is in
-              record {
-                sofar = record {
-                  m = m₁ + pattern-labels W K;
-                  past = then-past p
-                      (from-past (λ is. ap₂ (λ (i : ℕ) (x : Nodes). case-tests m₁ j j k i x is) less (own-tree-record recs r′ ne))
-                      (to-past
-                      (λ is. ap₂ (λ (i : ℕ) (x : Nodes). case-tests (m₁ + pattern-labels W K) j j i (n - (k + 1)) x is) up (sym trees))
-                      (before after (u .past))));
-                  long = u .long;
-                };
-                left =
-                    let a : case-labels (n - k) (own-tree (forest recs r′)) ≡ pattern-labels W K + case-labels (n - (k + 1)) (own-tree (forest recs r″))
-                    = ap₂ case-labels less (own-tree-record recs r′ ne) ∙ ap (λ (x : Nodes). pattern-labels W K + case-labels (n - (k + 1)) x) (sym trees) in
-                    let b : m₁ + case-labels (n - k) (own-tree (forest recs r′)) ≡ m + case-labels n (own-tree (forest recs r)) = w .left in
-                    omega arith;
-              };
+          past = from-goes (λ is. ap (λ (n : ℕ). get-label ∷ push-op Copy 1
+              ∷ pattern-steps m 0 1 (j ∷ js) w ns (λ is. inside-steps (parts w) m 1 (grown 0 1) (j ∷ js) 0 ns is) (push-op Pop 0 ∷ jump Jump j ∷ cleanup m n is))
+              (own-labels 0 1 w k ∙ one))
+              (then-goes (tested .past) (then-goes (matches .past) (clean .past)));
+          long = clean .held .long ∙ ap (λ (n : ℕ). m + n) (sym (own-labels 0 1 w k));
         }
       where
-        W : Words
-        W = words recs r′
+        w : Words
+        w = words R q
 
-        K : Nodes
-        K = own-kids recs r′
+        k : Forest
+        k = children R q
 
-        up : suc k ≡ k + 1
-        up = omega arith
+        ns : Nodes
+        ns = cond (is-function w) bare (own-tree k)
 
-        less : n - k ≡ suc (n - (k + 1))
-        less = omega arith
+        x : ℕ
+        x = labels A
 
-        trees : own-tree (forest recs r″) ≡ own-tree (forest recs (next recs r′))
-        trees = ap (λ (x : ℕ). own-tree (forest recs x)) e
+        -- its labels
+        v : ℕ
+        v = labels-visited 0 1 w k
 
-    -- no pattern is left
-    finished : n ≡ word recs c 2 → r ≡ kids recs c → ((m j : ℕ) (is : List Step) → case-tests m j j k (n - k) (own-tree (forest recs r′)) is ≡ is)
-        → case-labels (n - k) (own-tree (forest recs r′)) ≡ 0 → CaseTests recs symbols refs entries spans nest o s o′ s′ f c l
-    finished en er none spent =
-        record {
-          tests = λ t back sc o₀ A env q m y j ej em el named jm rep.
-              let w = turn .work t back sc o₀ A env q m y j ej em el named jm rep in
-              let left : w .sofar .m + case-labels (n - k) (own-tree (forest recs r′)) ≡ m + case-labels n (own-tree (forest recs r)) = w .left in
-              let all : case-labels n (own-tree (forest recs r)) ≡ case-labels (words recs c .p) (own-kids recs c) = ap₂ case-labels en trees in
-              let e : w .sofar .m ≡ m + case-labels (words recs c .p) (own-kids recs c) = omega (arith, spent) in
-              record {
-                past = from-past (λ is. ap₂ (λ (i : ℕ) (x : Nodes). case-tests m j j 0 i x is) (sym en) (sym trees)) (to-past (none (w .sofar .m) j) (w .sofar .past));
-                long = w .sofar .long ∙ e;
-              };
-        }
-      where
-        trees : own-tree (forest recs r) ≡ own-kids recs c
-        trees = ap (λ (x : ℕ). own-tree (forest recs x)) er ∙ own-kids-forest recs c
+        one : v ≡ suc (v - 1)
+        one = omega (arith, visited-more 0 1 w k)
 
-    pub case-short : n ≡ word recs c 2 → r ≡ kids recs c → r′ ≡ 0 → CaseTests recs symbols refs entries spans nest o s o′ s′ f c l
-    case-short en er e =
-        let b : own-tree (forest recs r′) ≡ bare = own-tree-none recs r′ e in
-        finished en er (λ m j is. ap (λ (x : Nodes). case-tests m j j k (n - k) x is) b) (ap (case-labels (n - k)) b)
+        A₁ : State
+        A₁ = emit (mark r (Do Copy 1)) (bump A)
 
-    pub case-done : n ≡ word recs c 2 → r ≡ kids recs c → n ≤ k → CaseTests recs symbols refs entries spans nest o s o′ s′ f c l
-    case-done en er le =
-        let b : n - k ≡ 0 = omega arith in
-        finished en er (λ m j is. ap (λ (i : ℕ). case-tests m j j k i (own-tree (forest recs r′)) is) b ∙ tests-zero m j j k (own-tree (forest recs r′)) is)
-        (ap (λ (i : ℕ). case-labels i (own-tree (forest recs r′))) b ∙ labels-zero (own-tree (forest recs r′)))
+        A₂ : State
+        A₂ = pattern-run (e .notes) r x 0 1 q w k (inside-run (e .notes) r (parts w) x 1 (grown 0 1) q 0 k) A₁
 
--- ---- the Cases: those before the record r, the label of whose block is l′, are tested
+        after : ℕ → State → State
+        after n B = emit (mark r (To Jump n)) (emit (mark r (Do Pop 0)) B)
 
-pub record CasesTurn (recs symbols refs entries spans : List ℕ) (nest : Bool) (f c l : ℕ) (o : Outs) (s : Run) (o′ : Outs) (s′ : Run) (r l′ : ℕ) : Type 0 where
-  pub turn : ℕ
-  pub label : (y : ℕ) → l ≡ cap y → l′ ≡ cap (y + turn)
-  pub child : (q j : ℕ) → nth recs j (first recs q) ≡ c → nth recs (j + turn) (first recs q) ≡ r
-  pub count : turn + many recs r ≡ many recs c
-  pub code : length (o′ .code) ≡ length (o .code)
-  pub consts : length (o′ .consts) ≡ length (o .consts)
-  pub work : (t : Semantic) (back : List ℕ) → Scoped t (lent recs symbols refs entries spans back) → (o₀ : Outs) (A : State) (env : List ℕ) (q m y j : ℕ)
-      → nth recs j (first recs q) ≡ c → m ≡ length env → l ≡ cap y → (flow A ≡ Go → (k : ℕ) → k < many recs c → getD env (j + k) 0 ≡ y + k) → j + many recs c ≤ m
-      → Rep recs nest o₀ A o s
-      → Numbered (run-of recs nest t f q o₀) (cases-tests m j (own-tree (forest recs c))) env A (λ m′ is. cases-tests m′ (j + turn) (own-tree (forest recs r)) is) o′ s′
+        quiet-after : (n : ℕ) → Quiet (after n)
+        quiet-after n = quiet-row (quiet-emit _) (quiet-emit _)
 
-module _ (recs symbols refs entries spans : List ℕ) (nest : Bool) {f c l : ℕ} {o : Outs} {s : Run} where
-  pub cases-hold : CasesTurn recs symbols refs entries spans nest f c l o s o s c l
-  cases-hold =
-      record {
-        turn = 0;
-        label = λ y e. e ∙ (let z : y ≡ y + 0 = omega arith in ap cap z);
-        child = λ q j e. (let z : j + 0 ≡ j = omega arith in ap (λ (i : ℕ). nth recs i (first recs q)) z) ∙ e;
-        count = omega arith;
-        code = refl;
-        consts = refl;
-        work = λ t back sc o₀ A env q m y j ej em el named le rep.
-            let z : j ≡ j + 0 = omega arith in
+        copies : Holds e c r (λ is. get-label ∷ push-op Copy 1 ∷ is) env A A₁ m 1 x
+        copies =
             record {
-              m = m;
               past = record {
-                names = env;
-                state = A;
-                more = [];
-                longer = append-none env;
-                still = λ g. g;
-                rep = rep;
-                goes = λ is. ap (λ (i : ℕ). part recs nest t f q (cases-tests m i (own-tree (forest recs c)) is) env A) z;
+                names = env ++ (x ∷ []);
+                more = x ∷ [];
+                longer = refl;
+                still = λ g. still-going bump no-bump A (still-going (emit (mark r (Do Copy 1))) (quiet-emit _ .rests) (bump A) g);
+                goes = λ is. refl;
               };
-              long = sym em;
-            };
-      }
+              held = held-quiet (emit (mark r (Do Copy 1))) (quiet-emit _) (env ++ (x ∷ [])) m 1 x (bump A) (held-more env m 0 x A
+                  (record { long = sym em ∙ omega arith; named = λ g n z. absurd (omega arith); next = λ g. omega arith }));
+            }
 
-  module _ {o′ : Outs} {s′ : Run} {r l′ : ℕ} (now : CasesTurn recs symbols refs entries spans nest f c l o s o′ s′ r l′) where
-    pub cases-again : {o″ : Outs} {s″ : Run} {r″ l″ : ℕ} → (r ≡ 0 → ⊥) → CaseTests recs symbols refs entries spans nest o′ s′ o″ s″ f r l′ → r″ ≡ next recs r
-        → l″ ≡ more l′
-        → length (o″ .code) ≡ length (o′ .code) → length (o″ .consts) ≡ length (o′ .consts) → CasesTurn recs symbols refs entries spans nest f c l o s o″ s″ r″ l″
-    cases-again {r″ = r″} {l″ = l″} ne v e el″ zo zc =
-        record {
-          turn = suc i;
-          label = λ y ey. el″ ∙ ap more (now .label y ey) ∙ more-cap (y + i) ∙ (let z : suc (y + i) ≡ y + suc i = omega arith in ap cap z);
-          child = λ q j ej.
-              (let z : j + suc i ≡ suc (j + i) = omega arith in ap (λ (n : ℕ). nth recs n (first recs q)) z) ∙ sym (nth-next recs (j + i) (first recs q))
-              ∙ ap (next recs) (now .child q j ej) ∙ sym e;
-          count = let a : many recs r″ ≡ many recs (next recs r) = ap (many recs) e in omega (arith, some, now .count);
-          code = zo ∙ now .code;
-          consts = zc ∙ now .consts;
-          work = λ t back sc o₀ A env q m y j ej em el named le rep.
-              let w = now .work t back sc o₀ A env q m y j ej em el named le rep in
-              let p = w .past in
-              let m₁ = w .m in
-              let long : length (p .names) ≡ m₁ = w .long in
-              let grew : length env ≤ length (p .names) = not-shorter p in
-              let here : i < many recs c = omega (arith, some, now .count) in
-              let u = v .tests t back sc o₀ (p .state) (p .names) q m₁ (y + i) (j + i) (now .child q j ej) (sym long) (now .label y el)
-              (kept-name p (j + i) (y + i) (omega arith) (λ g. named g i here)) (omega arith) (p .rep) in
-              let up : suc (j + i) ≡ j + suc i = omega arith in
-              let after : List Step → List Step
-              = λ is. cases-tests (m₁ + case-labels (words recs r .p) (own-kids recs r)) (suc (j + i)) (own-tree (forest recs (next recs r))) is in
-              record {
-                m = m₁ + case-labels (words recs r .p) (own-kids recs r);
-                past = then-past p
-                    (from-past (λ is. ap (λ (x : Nodes). cases-tests m₁ (j + i) x is) (own-tree-record recs r ne))
-                    (to-past
-                    (λ is. ap₂ (λ (n : ℕ) (x : Nodes). cases-tests (m₁ + case-labels (words recs r .p) (own-kids recs r)) n x is) up
-                    (ap (λ (x : ℕ). own-tree (forest recs x)) (sym e)))
-                    (before after (u .past))));
-                long = u .long;
-              };
-        }
-      where
-        i : ℕ
-        i = now .turn
+        tested : Holds e c r
+            (λ is. get-label ∷ push-op Copy 1 ∷ pattern-steps m 0 1 (j ∷ js) w ns (λ is. inside-steps (parts w) m 1 (grown 0 1) (j ∷ js) 0 ns is) is) env A A₂ m v x
+        tested = then-holds copies (pattern-goes e c r j m x 0 1 q js (env ++ (x ∷ [])) A₁ p ne (omega arith) (copies .held))
 
-        some : many recs r ≡ suc (many recs (next recs r))
-        some = width-some recs r ne
+        matches : Holds e c r (λ is. push-op Pop 0 ∷ jump Jump j ∷ is) (tested .past .names) A₂ (after y A₂) m v x
+        matches =
+            quiet-holds (after y) (quiet-after y)
+            (λ is. ap (doing e c r is (tested .past .names)) (same-if after (λ n. quiet-after n .rests) (getD (tested .past .names) j 0) y A₂
+            (kept-name (tested .past) j y (omega (arith, em)) named))) (tested .held)
 
-    pub cases-done : r ≡ 0 → Tests recs symbols refs entries spans nest o s o′ s′ f c l
-    cases-done e =
-        record {
-          tests = λ t back sc o₀ A env q m y j ej em el named le rep.
-              let w = now .work t back sc o₀ A env q m y j ej em el named le rep in
-              to-past (λ is. ap (λ (x : Nodes). cases-tests (w .m) (j + now .turn) x is) (own-tree-none recs r e)) (w .past);
-        }
+        clean : Holds e c r (cleanup m (suc (v - 1))) (tested .past .names) (after y A₂) (cleanup-run r x (v - 1) (after y A₂)) m v x
+        clean = cleanup-holds (v - 1) m v x (tested .past .names) (after y A₂) (omega (arith, one)) (matches .held)
+
+    -- the patterns of the Case q that is child j, from its child i on
+    abbrev CaseFrom : Forest → Type 0
+    CaseFrom f = (m y q i n : ℕ) (env : List ℕ) (A : State) → nth R j (first R r) ≡ q → (q ≡ 0 → ⊥) → is-function (words R q) ≡ false → Link R f i q → m ≡ length env
+        → j < m → (flow A ≡ Go → getD env j 0 ≡ y) → Ends (case-tests m j j i n (own-tree f)) env A (case-run (e .notes) r y n f A) (m + case-labels n (own-tree f))
+
+    case-none : CaseFrom none
+    unfolding case-run
+    case-none m y q i n env A p nq nf lk em lt named = record { past = quiet-goes (λ B. B) quiet-none (λ is. refl); long = sym em ∙ omega arith }
+
+    case-more : (l : ℕ) → (l ≡ 0 → ⊥) → CaseFrom (forest R (next R l)) → CaseFrom (tree l (words R l) (children R l) (forest R (next R l)))
+    unfolding case-run
+    case-more l ne rest m y q i zero env A p nq nf lk em lt named = record { past = quiet-goes (λ B. B) quiet-none (λ is. refl); long = sym em ∙ omega arith }
+    case-more l ne rest m y q i (suc n) env A p nq nf lk em lt named =
+        let w = words R l in
+        let k = children R l in
+        let s = forest R (next R l) in
+        let h = pattern-labels w (cond (is-function w) bare (own-tree k)) in
+        let a = test-ends m y l (i ∷ []) env A (leads-child e c r j [] i p nq nf lk) ne em lt named in
+        let b = rest (m + h) y q (suc i) n (a .past .names) (test-run (e .notes) r y l w k A) p nq nf (link-next R l i q lk) (sym (a .long)) (omega arith)
+        (kept-name (a .past) j y (omega (arith, em)) named) in
+        record { past = then-goes (a .past) (b .past); long = b .long ∙ omega arith }
+
+    case-ends : (l : ℕ) → CaseFrom (forest R l)
+    case-ends l = by-records R CaseFrom case-none (λ q x y. case-more (suc q) (λ z. omega arith) y) l
+
+  -- the Cases from the child j on
+  abbrev CasesFrom : Forest → Type 0
+  CasesFrom f = (m y j : ℕ) (env : List ℕ) (A : State) → Link R f j r → m ≡ length env → j + width (own-tree f) ≤ m
+      → (flow A ≡ Go → (k : ℕ) → k < width (own-tree f) → getD env (j + k) 0 ≡ y + k) → Goes e c r (cases-tests m j (own-tree f)) env A (cases-run (e .notes) r y f A)
+
+  cases-none : CasesFrom none
+  unfolding cases-run
+  cases-none m y j env A lk em le named = quiet-goes (λ B. B) quiet-none (λ is. refl)
+
+  cases-more : (l : ℕ) → (l ≡ 0 → ⊥) → CasesFrom (forest R (next R l)) → CasesFrom (tree l (words R l) (children R l) (forest R (next R l)))
+  unfolding cases-run case-run
+  cases-more l ne rest m y j env A lk em le named =
+      let a = here (is-function w) refl in
+      then-goes (a .past)
+      (rest (m + case-labels (w .p) ns) (suc y) (suc j) (a .past .names) _ (link-next R l j r lk) (sym (a .long)) (omega arith)
+      (λ g k lt. ap (λ (i : ℕ). getD (a .past .names) i 0) (let z : suc j + k ≡ j + suc k = omega arith in z)
+      ∙ kept-name (a .past) (j + suc k) (y + suc k) (omega (arith, em)) (λ g. named g (suc k) (omega arith)) g ∙ (let z : y + suc k ≡ suc y + k = omega arith in z)))
+    where
+      w : Words
+      w = words R l
+
+      k : Forest
+      k = children R l
+
+      ns : Nodes
+      ns = cond (is-function w) bare (own-tree k)
+
+      -- the Case's block's label
+      name : flow A ≡ Go → getD env j 0 ≡ y
+      name g = ap (λ (i : ℕ). getD env i 0) (let z : j ≡ j + 0 = omega arith in z) ∙ named g 0 (omega arith) ∙ (let z : y + 0 ≡ y = omega arith in z)
+
+      here : (b : Bool) → is-function w ≡ b
+          → Ends (case-tests m j j 0 (w .p) (cond b bare (own-tree k))) env A (case-run (e .notes) r y (w .p) (cond b none k) A) (m + case-labels (w .p) (cond b bare (own-tree k)))
+      here true q = record { past = quiet-goes (λ B. B) quiet-none (λ is. refl); long = sym em ∙ omega arith }
+      here false q = case-ends j (first R l) m y l 0 (w .p) env A (sym lk) ne q (link-at R (first R l) 0 l refl) em (omega arith) name
+
+  pub cases-goes : (l : ℕ) → CasesFrom (forest R l)
+  cases-goes l = by-records R CasesFrom cases-none (λ q x y. cases-more (suc q) (λ z. omega arith) y) l

@@ -1,8 +1,8 @@
-pub mod MarkLaws
-pub mod CountLaws
-pub mod PastLaws
-pub mod StepLaws
-pub mod TurnLaws
-pub mod CleanLaws
+pub mod HeldLaws
+pub mod PatternLaws
 pub mod CaseLaws
-pub mod BlockLaws
+pub mod MatchLaws
+pub mod TurnLaws
+pub mod DepthLaws
+pub mod TestLaws
+pub mod CleanLaws

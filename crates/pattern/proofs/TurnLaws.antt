@@ -1,285 +1,359 @@
--- The ways out of a pattern's visit, and the loop over a Table's or List's children. Assumes nothing.
+-- The loops along a Table's and a List's children, and what stands around them. Assumes nothing.
 use mathlib.Core.Path.{_≡_, refl, sym, ap, ap₂, subst, _∙_}
-use mathlib.Core.Bool.{Bool, true, false, cond, _&&_}
-use mathlib.Core.List.{List, [], _∷_, _++_}
+use mathlib.Core.Bool.{Bool, true, false, cond}
+use mathlib.Core.List.{List}
 use mathlib.Core.Logic.{inl, inr}
-use Prim.Native.Nat.{ℕ, zero, suc, _+_, _-_, _≤_, _<_}
+use Prim.Native.Nat.{ℕ, zero, suc, _+_, _-_, _/_, _≤_, _<_}
 use native.Mathlib.Omega.{arith}
 use lib.ListN.{length}
 use lib.Dec.{ltb}
-use borrow.Author.Tests.{lt-ltb}
-use Rattle.tables.specs.Record.{Words, words, size}
-use Rattle.tables.specs.Forest.{Nodes, bare, node, first, next, forest, own-tree}
-use Rattle.tables.proofs.ForestLaws.{Onward, first-onward, next-onward}
-use Rattle.pool.specs.Names.{Semantic}
-use Rattle.rules.specs.Marker.{Pop}
-use Rattle.rules.specs.Step.{Path, Step, say}
-use Rattle.rules.specs.Patterns.{Part, parts, next-part, is-pattern-part, is-nested, grown, labels-after, lead, pattern-steps, inside-steps}
-use Rattle.rules.specs.Run.{State}
-use Rattle.emit.specs.Sim.{limit, cap, more, lent, Scoped, Outs, outs, Rep}
-use Rattle.emit.specs.Access.{stored}
-use Rattle.emit.specs.Does.{nth, child, reach}
+use borrow.Author.Tests.{lt-ltb, ltb-false}
+use Rattle.opcode.specs.declared.index.LabelId.{LabelId}
+use Rattle.opcode.specs.Words.{pairOf}
+use Rattle.tables.specs.Record.{Words, words, size, is-kind}
+use Rattle.tables.specs.Forest.{Forest, Nodes, first, next, forest, children, own-tree}
+use Rattle.tables.proofs.ForestLaws.{Onward, first-onward, next-onward, next-zero, forest-absent, forest-record}
+use Rattle.pool.specs.Value.{int}
+use Rattle.rules.specs.Marker.{Pop, Do, mark}
+use Rattle.rules.specs.Step.{width}
+use Rattle.rules.specs.Patterns.{Part, item, key, value, parts, is-nested, grown, labels-after, pattern-size}
+use Rattle.rules.specs.Run.{State, emit, bump}
+use Rattle.emit.specs.Words.{limit, cap, more, at}
+use Rattle.emit.specs.Sinks.{Pushes}
+use Rattle.emit.specs.Rep.{lent, Outs, outs, Sim}
 use Rattle.emit.proofs.Basics.{on-true}
-use Rattle.emit.proofs.PartLaws.{nth-next, width-some}
-use Rattle.pattern.specs.declared.place.Place.{Place}
-use Rattle.pattern.specs.declared.place.Tested.{Tested}
-use Rattle.pattern.specs.Shapes.{partOf, own-kids, Inside, Beside, Leads, Begins, Leaf, Pops, part-steps, labels-visited}
-use Rattle.pattern.specs.Tests.{Held, Reached, Visits, run-of, end}
-use Rattle.pattern.proofs.CountLaws.{Small, many, many-few, one-more, own-kids-nested, own-tree-record, own-tree-none}
-use Rattle.pattern.proofs.PastLaws.{append-none, then-reached, before-reached, to-reached, from-reached}
-use Rattle.pattern.proofs.StepLaws.{lead-reached, pop-reached, leaf-reached, open-reached, depth-there}
+use Rattle.emit.proofs.RepLaws.{then, resim, moves-sim, stay, bumps, labelled}
+use Rattle.emit.proofs.MarkLaws.{said}
+use Rattle.plain.specs.Runs.{item-run}
+use Rattle.plain.specs.Leaves.{GetsItem}
+use Rattle.plain.proofs.GoLaws.{cap-after}
+use Rattle.plain.proofs.CountLaws.{width-most}
+use Rattle.pattern.specs.declared.clean.CleanStack.{CleanStack}
+use Rattle.pattern.specs.Tests.{lit-of, labels-visited, first-labels, table-run, pattern-run, inside-run, first-run}
+use Rattle.pattern.specs.Contracts.{WithLabel, Deepens, Deep, VisitsPattern}
+use Rattle.pattern.proofs.PatternLaws.{own-labels}
 
--- ---- labels are never given back
+-- ---- record numbers rise towards the table's length
 
-after-either : (b : Bool) (h n : ℕ) → h ≤ n → h ≤ cond b n h
-after-either true h n le = le
-after-either false h n le = omega arith
+abbrev pub rank : List ℕ → ℕ → ℕ
+rank recs zero = 0
+rank recs (suc c) = suc (size recs - suc c)
 
-grown-more : (d h : ℕ) → h ≤ grown d h
-grown-more d h = go (ltb (suc d) h)
+pub rank-falls : (recs : List ℕ) (r c : ℕ) → Onward recs r c → (r ≡ 0 → ⊥) → rank recs c < rank recs r
+rank-falls recs zero c l ne = absurd (ne refl)
+rank-falls recs (suc r) zero l ne = omega arith
+rank-falls recs (suc r) (suc c) (inl e) ne = absurd (omega arith)
+rank-falls recs (suc r) (suc c) (inr (a, b)) ne = omega arith
+
+pub rank-next : (recs : List ℕ) (c x : ℕ) → x ≡ next recs c → rank recs x ≤ rank recs c
+unfolding next
+rank-next recs zero x e = let z : rank recs x ≡ 0 = ap (rank recs) e in omega arith
+rank-next recs (suc c) x e =
+    let z : rank recs (next recs (suc c)) < rank recs (suc c) = rank-falls recs (suc c) (next recs (suc c)) (next-onward recs (suc c)) (λ i. omega arith) in
+    let y : rank recs x ≡ rank recs (next recs (suc c)) = ap (rank recs) e in
+    omega arith
+
+pub rank-less : (recs : List ℕ) (c x : ℕ) → (c ≡ 0 → ⊥) → x ≡ next recs c → rank recs x < rank recs c
+rank-less recs c x ne e =
+    let z : rank recs (next recs c) < rank recs c = rank-falls recs c (next recs c) (next-onward recs c) ne in
+    let y : rank recs x ≡ rank recs (next recs c) = ap (rank recs) e in
+    omega arith
+
+pub onward-next : (recs : List ℕ) (q c x : ℕ) → Onward recs q c → (c ≡ 0 → ⊥) → x ≡ next recs c → Onward recs q x
+onward-next recs q c x (inl z) ne e = absurd (ne z)
+onward-next recs q c x (inr (a, b)) ne e = subst (Onward recs q) (sym e) (go (next-onward recs c))
   where
-    go : (b : Bool) → h ≤ cond b h (suc h)
+    go : Onward recs c (next recs c) → Onward recs q (next recs c)
+    go (inl z) = inl z
+    go (inr (i, j)) = inr (omega arith, j)
+
+onward-past : (recs : List ℕ) (q c x : ℕ) → Onward recs q c → x ≡ next recs c → Onward recs q x
+unfolding next
+onward-past recs q zero x l e = inl e
+onward-past recs q (suc c) x l e = onward-next recs q (suc c) x l (λ z. omega arith) e
+
+-- ---- one child of a pattern, by record numbers
+
+module _ (recs notes : List ℕ) (r : ℕ) where
+  pub first-some : (x d h c : ℕ) (A : State) → (c ≡ 0 → ⊥)
+      → first-run notes r x d h (forest recs c) A
+      ≡ pattern-run notes r x d h c (words recs c) (children recs c) (inside-run notes r (parts (words recs c)) x (suc d) (grown d h) c 0 (children recs c)) A
+  first-some x d h zero A ne = absurd (ne refl)
+  first-some x d h (suc c) A ne = ap (λ (f : Forest). first-run notes r x d h f A) (forest-record recs c)
+
+  inside-none : (a : Part) (x d h q i c : ℕ) (A : State) → c ≡ 0 → inside-run notes r a x d h q i (forest recs c) A ≡ A
+  unfolding inside-run
+  inside-none a x d h q i c A e =
+      ap (λ (l : ℕ). inside-run notes r a x d h q i (forest recs l) A) e ∙ ap (λ (f : Forest). inside-run notes r a x d h q i f A) (forest-absent recs)
+
+  item-turn : (x d h q i c : ℕ) (A : State) → (c ≡ 0 → ⊥)
+      → inside-run notes r item x d h q i (forest recs c) A
+      ≡ inside-run notes r item x d (first-labels d h (forest recs c)) q (suc i) (forest recs (next recs c)) (first-run notes r x d h (forest recs c) (item-run r q (int i) A))
+  unfolding inside-run
+  item-turn x d h q i zero A ne = absurd (ne refl)
+  item-turn x d h q i (suc c) A ne =
+      subst (λ (f : Forest). inside-run notes r item x d h q i f A
+      ≡ inside-run notes r item x d (first-labels d h f) q (suc i) (forest recs (next recs (suc c))) (first-run notes r x d h f (item-run r q (int i) A)))
+      (sym (forest-record recs c)) refl
+
+  key-turn : (x d h q i c : ℕ) (A : State) → (c ≡ 0 → ⊥)
+      → inside-run notes r key x d h q i (forest recs c) A
+      ≡ inside-run notes r value x d h q (suc i) (forest recs (next recs c)) (item-run r c (lit-of (words recs c)) A)
+  unfolding inside-run
+  key-turn x d h q i zero A ne = absurd (ne refl)
+  key-turn x d h q i (suc c) A ne = ap (λ (f : Forest). inside-run notes r key x d h q i f A) (forest-record recs c)
+
+  -- an odd child has no pattern
+  value-turn : (x d h q i c : ℕ) (A : State)
+      → inside-run notes r value x d h q i (forest recs c) A
+      ≡ inside-run notes r key x d (first-labels d h (forest recs c)) q (suc i) (forest recs (next recs c)) (first-run notes r x d h (forest recs c) A)
+  unfolding inside-run next
+  value-turn x d h q i zero A =
+      subst (λ (f : Forest). inside-run notes r value x d h q i f A ≡ inside-run notes r key x d (first-labels d h f) q (suc i) f (first-run notes r x d h f A))
+      (sym (forest-absent recs)) refl
+  value-turn x d h q i (suc c) A =
+      subst (λ (f : Forest). inside-run notes r value x d h q i f A
+      ≡ inside-run notes r key x d (first-labels d h f) q (suc i) (forest recs (next recs (suc c))) (first-run notes r x d h f A))
+      (sym (forest-record recs c)) refl
+
+-- the labels that they take
+module _ (recs : List ℕ) where
+  after-none : (a : Part) (d h c : ℕ) → c ≡ 0 → labels-after a d h (own-tree (forest recs c)) ≡ h
+  after-none a d h c e = ap (λ (l : ℕ). labels-after a d h (own-tree (forest recs l))) e ∙ ap (λ (f : Forest). labels-after a d h (own-tree f)) (forest-absent recs)
+
+  item-after : (d h c : ℕ) → (c ≡ 0 → ⊥)
+      → labels-after item d h (own-tree (forest recs c)) ≡ labels-after item d (first-labels d h (forest recs c)) (own-tree (forest recs (next recs c)))
+  item-after d h zero ne = absurd (ne refl)
+  item-after d h (suc c) ne =
+      subst (λ (f : Forest). labels-after item d h (own-tree f) ≡ labels-after item d (first-labels d h f) (own-tree (forest recs (next recs (suc c)))))
+      (sym (forest-record recs c))
+      (ap (λ (n : ℕ). labels-after item d n (own-tree (forest recs (next recs (suc c))))) (own-labels d h (words recs (suc c)) (children recs (suc c))))
+
+  key-after : (d h c : ℕ) → (c ≡ 0 → ⊥) → labels-after key d h (own-tree (forest recs c)) ≡ labels-after value d h (own-tree (forest recs (next recs c)))
+  key-after d h zero ne = absurd (ne refl)
+  key-after d h (suc c) ne = ap (λ (f : Forest). labels-after key d h (own-tree f)) (forest-record recs c)
+
+  value-after : (d h c : ℕ)
+      → labels-after value d h (own-tree (forest recs c)) ≡ labels-after key d (first-labels d h (forest recs c)) (own-tree (forest recs (next recs c)))
+  unfolding next
+  value-after d h zero =
+      subst (λ (f : Forest). labels-after value d h (own-tree f) ≡ labels-after key d (first-labels d h f) (own-tree f)) (sym (forest-absent recs)) refl
+  value-after d h (suc c) =
+      subst (λ (f : Forest). labels-after value d h (own-tree f) ≡ labels-after key d (first-labels d h f) (own-tree (forest recs (next recs (suc c)))))
+      (sym (forest-record recs c))
+      (ap (λ (n : ℕ). labels-after key d n (own-tree (forest recs (next recs (suc c))))) (own-labels d h (words recs (suc c)) (children recs (suc c))))
+
+-- ---- the loops: of the pattern q's children those before the record c are tested, and what tests the others tests all
+
+-- a word can number the records, and the children's depth is less than the pattern's number
+abbrev pub Fits : List ℕ → ℕ → ℕ → Type 0
+Fits recs d q = (size recs < limit) × (d < q)
+
+pub record Turn (recs notes : List ℕ) (a : Part) (q d : ℕ) (o₀ : Outs) (w₀ : List ℕ) (c₀ : ℕ) (s₀ : CleanStack) (o : Outs) (w : List ℕ) (c i : ℕ) (s : CleanStack) : Type 0 where
+  pub first : s .first ≡ s₀ .first
+  pub link : Onward recs q c
+  pub fall : rank recs c ≤ rank recs c₀
+  pub few : (c ≡ 0 → ⊥) → i < c
+  pub code : length (o .code) ≡ length (o₀ .code)
+  pub consts : length (o .consts) ≡ length (o₀ .consts)
+  pub taken : Fits recs d q → labels-after a d (s₀ .taken) (own-tree (forest recs c₀)) ≡ labels-after a d (s .taken) (own-tree (forest recs c))
+  pub work : Fits recs d q → (r x : ℕ) → s₀ .first .0 ≡ cap x → (o′ : Outs) (w′ : List ℕ)
+      → Sim (lent recs notes) o w o′ w′ (λ v. inside-run notes r a x d (s .taken) q i (forest recs c))
+      → Sim (lent recs notes) o₀ w₀ o′ w′ (λ v. inside-run notes r a x d (s₀ .taken) q 0 (forest recs c₀))
+
+-- of a Table, whose children are not counted
+pub record TableTurn (recs notes : List ℕ) (q d : ℕ) (o₀ : Outs) (w₀ : List ℕ) (c₀ : ℕ) (s₀ : CleanStack) (o : Outs) (w : List ℕ) (c : ℕ) (s : CleanStack) : Type 0 where
+  pub i : ℕ
+  pub turn : Turn recs notes key q d o₀ w₀ c₀ s₀ o w c i s
+
+-- a child is deep enough
+child-deep : (recs : List ℕ) (d q c : ℕ) → Onward recs q c → Fits recs d q → Deep recs d c
+child-deep recs d q c (inl e) (m, lt) = (m, inl e)
+child-deep recs d q c (inr (a, b)) (m, lt) = (m, inr (omega arith, b))
+
+more-exact : (n : ℕ) → n < limit → more n ≡ suc n
+more-exact n lt = on-true (ltb n limit) (n + 1) n (lt-ltb n limit lt) ∙ omega arith
+
+one-more : (recs : List ℕ) (q c i n : ℕ) → Onward recs q c → (c ≡ 0 → ⊥) → size recs < limit → i < c → n ≡ more i → n ≡ suc i
+one-more recs q c i n (inl z) ne m lt e = absurd (ne z)
+one-more recs q c i n (inr (a, b)) ne m lt e = e ∙ more-exact i (omega arith)
+
+rises : (recs : List ℕ) (c x i n : ℕ) → (c ≡ 0 → ⊥) → x ≡ next recs c → i < c → n ≤ suc i → (x ≡ 0 → ⊥) → n < x
+rises recs c x i n ne e lt le nx = go (next-onward recs c)
+  where
+    go : Onward recs c (next recs c) → n < x
+    go (inl z) = absurd (nx (e ∙ z))
+    go (inr (a, b)) = omega arith
+
+more-least : (i : ℕ) → more i ≤ suc i
+more-least i = go (ltb i limit)
+  where
+    go : (b : Bool) → cond b (i + 1) i ≤ suc i
     go true = omega arith
     go false = omega arith
 
-after-more : (a : Part) (d h : ℕ) (k : Nodes) → h ≤ labels-after a d h k
-after-more a d h bare = omega arith
-after-more a d h (node w k s) =
-    let g : h ≤ grown d h = grown-more d h in
-    let i : grown d h ≤ labels-after (parts w) (suc d) (grown d h) k = after-more (parts w) (suc d) (grown d h) k in
-    let e : h ≤ labels-visited a d h w k = after-either (is-pattern-part a && is-nested w) h (labels-after (parts w) (suc d) (grown d h) k) (omega arith) in
-    let z : labels-visited a d h w k ≤ labels-after (next-part a) d (labels-visited a d h w k) s = after-more (next-part a) d (labels-visited a d h w k) s in
-    omega arith
+twice : (recs : List ℕ) (c l x i : ℕ) → (c ≡ 0 → ⊥) → l ≡ next recs c → x ≡ next recs l → i < c → (x ≡ 0 → ⊥) → suc (suc i) < x
+twice recs c l x i ne el ex lt nx =
+    let nl : l ≡ 0 → ⊥ = λ z. nx (ex ∙ sym (next-zero recs l z)) in
+    rises recs l x (suc i) (suc (suc i)) nl ex (rises recs c l i (suc i) ne el lt (omega arith) nl) (omega arith) nx
 
-visited-more : (a : Part) (d h : ℕ) (w : Words) (k : Nodes) → h ≤ labels-visited a d h w k
-visited-more a d h w k =
-    let g : h ≤ grown d h = grown-more d h in
-    let i : grown d h ≤ labels-after (parts w) (suc d) (grown d h) k = after-more (parts w) (suc d) (grown d h) k in
-    after-either (is-pattern-part a && is-nested w) h (labels-after (parts w) (suc d) (grown d h) k) (omega arith)
+same-inside : (recs notes : List ℕ) (a : Part) (r y d q : ℕ) {h h′ i i′ c c′ : ℕ} (A : State) → h ≡ h′ → i ≡ i′ → c ≡ c′
+    → inside-run notes r a y d h q i (forest recs c) A ≡ inside-run notes r a y d h′ q i′ (forest recs c′) A
+same-inside recs notes a r y d q {h} {h′} {i} {i′} {c} A eh ei ec =
+    ap₂ (λ (k l : ℕ). inside-run notes r a y d k q l (forest recs c) A) eh ei ∙ ap (λ (k : ℕ). inside-run notes r a y d h′ q i′ (forest recs k) A) ec
 
--- ---- paths
-
-reach-child : (recs : List ℕ) (l : ℕ) (js : Path) (i : ℕ) → reach recs l (js ++ (i ∷ [])) ≡ child recs (reach recs l js) i
-reach-child recs l [] i = refl
-reach-child recs l (j ∷ js) i = reach-child recs (child recs l j) js i
-
-pub child-some : (recs : List ℕ) (c i : ℕ) → (c ≡ 0 → ⊥) → child recs c i ≡ nth recs i (first recs c)
-child-some recs zero i ne = absurd (ne refl)
-child-some recs (suc c) i ne = refl
-
-pub reach-below : (recs : List ℕ) (l : ℕ) (js : Path) (c i x : ℕ) → reach recs l js ≡ c → (c ≡ 0 → ⊥) → x ≡ nth recs i (first recs c) → reach recs l (js ++ (i ∷ [])) ≡ x
-reach-below recs l js c i x e ne q = reach-child recs l js i ∙ ap (λ (z : ℕ). child recs z i) e ∙ child-some recs c i ne ∙ sym q
-
--- ---- steps and labels by other names
-
-inside-same : (m : ℕ) (at : Path) (is : List Step) {a a′ : Part} {d d′ h h′ i i′ : ℕ} {k k′ : Nodes} → a ≡ a′ → d ≡ d′ → h ≡ h′ → i ≡ i′ → k ≡ k′
-    → inside-steps a m d h at i k is ≡ inside-steps a′ m d′ h′ at i′ k′ is
-inside-same m at is {a} {a′} {d} {d′} {h} {h′} {i} {i′} {k} ea ed eh ei ek =
-    ap (λ (z : Part). inside-steps z m d h at i k is) ea ∙ ap (λ (z : ℕ). inside-steps a′ m z h at i k is) ed ∙ ap (λ (z : ℕ). inside-steps a′ m d′ z at i k is) eh
-    ∙ ap (λ (z : ℕ). inside-steps a′ m d′ h′ at z k is) ei ∙ ap (λ (z : Nodes). inside-steps a′ m d′ h′ at i′ z is) ek
-
-after-same : {a a′ : Part} {d d′ h h′ : ℕ} {k k′ : Nodes} → a ≡ a′ → d ≡ d′ → h ≡ h′ → k ≡ k′ → labels-after a d h k ≡ labels-after a′ d′ h′ k′
-after-same {a} {a′} {d} {d′} {h} {h′} {k} ea ed eh ek =
-    ap (λ (z : Part). labels-after z d h k) ea ∙ ap (λ (z : ℕ). labels-after a′ z h k) ed ∙ ap (λ (z : ℕ). labels-after a′ d′ z k) eh ∙ ap (labels-after a′ d′ h′) ek
-
--- ---- the ways out
-
-module _ (recs symbols refs entries spans : List ℕ) (nest : Bool) where
-  pub visit-key : {o o′ : Outs} {s s′ : Tested} {c : ℕ} {at : Place} → Leads recs nest o s o′ s′ c at → is-pattern-part (partOf (at .part)) ≡ false
-      → Visits recs symbols refs entries spans nest o s o′ s′ c at
-  visit-key {s = s} {c = c} {at = at} h e =
-      let w = words recs c in
-      let k = own-kids recs c in
+module _ (recs notes : List ℕ) {q d : ℕ} where
+  pub turn-holds : (a : Part) (o : Outs) (w : List ℕ) (s : CleanStack) {c : ℕ} → c ≡ first recs q → Turn recs notes a q d o w c s o w c 0 s
+  turn-holds a o w s {c} e =
       record {
-        taken = h .taken ∙ sym (ap (λ (z : Bool). cond (z && is-nested w) (labels-after (parts w) (suc (at .depth)) (grown (at .depth) (s .taken)) k) (s .taken)) e);
-        visits = λ t back sc o₀ A env r m x p j js er el lt hd y.
-            from-reached
-            (λ is. ap (λ (z : Bool). lead (partOf (at .part)) p (at .i) w (cond z (pattern-steps m (at .depth) (s .taken) (j ∷ js) w k
-            (λ is. inside-steps (parts w) m (suc (at .depth)) (grown (at .depth) (s .taken)) (j ∷ js) 0 k is) is) is)) e)
-            (lead-reached recs nest t (at .f) r o₀ p h env m x A hd y);
-      }
-
-  module _ {o o₁ : Outs} {s s₁ : Tested} {c : ℕ} {at : Place} (le : Leads recs nest o s o₁ s₁ c at) (ea : is-pattern-part (partOf (at .part)) ≡ true) where
-    -- what stands before the pattern, and the pattern
-    led-steps : (m : ℕ) (p at′ : Path) (is : List Step)
-        → part-steps (partOf (at .part)) m (at .depth) (s .taken) p at′ (at .i) (words recs c) (own-kids recs c) is
-        ≡ lead (partOf (at .part)) p (at .i) (words recs c) (pattern-steps m (at .depth) (s₁ .taken) at′ (words recs c) (own-kids recs c)
-        (λ is. inside-steps (parts (words recs c)) m (suc (at .depth)) (grown (at .depth) (s .taken)) at′ 0 (own-kids recs c) is) is)
-    led-steps m p at′ is =
-        ap₂ (λ (z : Bool) (h : ℕ). lead (partOf (at .part)) p (at .i) (words recs c) (cond z (pattern-steps m (at .depth) h at′ (words recs c) (own-kids recs c)
-        (λ is. inside-steps (parts (words recs c)) m (suc (at .depth)) (grown (at .depth) (s .taken)) at′ 0 (own-kids recs c) is) is) is)) ea (sym (le .taken))
-
-    visited-if : (b : Bool) → is-nested (words recs c) ≡ b
-        → labels-visited (partOf (at .part)) (at .depth) (s .taken) (words recs c) (own-kids recs c)
-        ≡ cond b (labels-after (parts (words recs c)) (suc (at .depth)) (grown (at .depth) (s .taken)) (own-kids recs c)) (s .taken)
-    visited-if b e =
-        ap₂ (λ (y z : Bool). cond (y && z) (labels-after (parts (words recs c)) (suc (at .depth)) (grown (at .depth) (s .taken)) (own-kids recs c)) (s .taken)) ea e
-
-    pub visit-leaf : {o′ : Outs} {s′ : Tested} → is-nested (words recs c) ≡ false → Leaf recs nest o₁ s₁ o′ s′ c (stored recs symbols refs entries spans (at .f) c) at
-        → Visits recs symbols refs entries spans nest o s o′ s′ c at
-    visit-leaf en h =
-        record {
-          taken = h .taken ∙ le .taken ∙ sym (visited-if false en);
-          visits = λ t back sc o₀ A env r m x p j js er el lt hd y.
-              let inside : List Step → List Step
-              = λ is. inside-steps (parts (words recs c)) m (suc (at .depth)) (grown (at .depth) (s .taken)) (j ∷ js) 0 (own-kids recs c) is in
-              let l = lead-reached recs nest t (at .f) r o₀ p le env m x A hd y in
-              from-reached (led-steps m p (j ∷ js))
-              (then-reached (before-reached (λ is. pattern-steps m (at .depth) (s₁ .taken) (j ∷ js) (words recs c) (own-kids recs c) inside is) l)
-              (leaf-reached recs nest t (at .f) r o₀ symbols refs entries spans back sc h en (own-kids recs c) inside (l .past .names) m x (l .past .state) j js er el
-              (subst (λ (n : ℕ). at .depth < n) (sym (le .taken)) lt) (l .held) (l .past .rep)));
-        }
-
--- ---- the loop over the children of the record r: from o, s and the child c at the place at, to o′, s′ and the child c′ at the place at′
-abbrev pub Inner : (recs : List ℕ) → (m : ℕ) → Path → Tested → ℕ → Place → List Step → List Step
-Inner recs m js s c at is = inside-steps (partOf (at .part)) m (at .depth) (s .taken) js (at .i) (own-tree (forest recs c)) (say Pop 0 ∷ is)
-
-abbrev pub inner-labels : List ℕ → Tested → ℕ → Place → ℕ
-inner-labels recs s c at = labels-after (partOf (at .part)) (at .depth) (s .taken) (own-tree (forest recs c))
-
-pub record Turn (recs symbols refs entries spans : List ℕ) (nest : Bool) (r : ℕ) (o : Outs) (s : Tested) (c : ℕ) (at : Place) (o′ : Outs) (s′ : Tested) (c′ : ℕ)
-    (at′ : Place) : Type 0 where
-  pub link : Onward recs r c′
-  pub child : c′ ≡ nth recs (at′ .i) (first recs r)
-  pub count : at′ .i + many recs c′ ≡ many recs (first recs r)
-  pub f : at′ .f ≡ at .f
-  pub label : at′ .label ≡ at .label
-  pub depth : at′ .depth ≡ at .depth
-  pub deep : at .depth < s .taken → at′ .depth < s′ .taken
-  pub rest : inner-labels recs s′ c′ at′ ≡ inner-labels recs s c at
-  pub code : length (o′ .code) ≡ length (o .code)
-  pub consts : length (o′ .consts) ≡ length (o .consts)
-  pub work : (t : Semantic) (back : List ℕ) → Scoped t (lent recs symbols refs entries spans back) → (o₀ : Outs) (A : State) (env : List ℕ) (q m x j : ℕ) (js : Path)
-      → reach recs (nth recs j (first recs q)) js ≡ r → at .label ≡ cap x → at .depth < s .taken → Held env m (s .taken) x A → Rep recs nest o₀ A o (s .run)
-      → Reached (run-of recs nest t (at .f) q o₀) m x (Inner recs m (j ∷ js) s c at) env A (Inner recs m (j ∷ js) s′ c′ at′) (s′ .taken) o′ (s′ .run)
-
-module _ (recs symbols refs entries spans : List ℕ) (nest : Bool) {r : ℕ} {o : Outs} {s : Tested} {c : ℕ} {at : Place} where
-  pub turn-holds : {w : Words} {at₀ : Place} → Inside w at₀ at → c ≡ first recs r → Turn recs symbols refs entries spans nest r o s c at o s c at
-  turn-holds i ec =
-      record {
-        link = subst (Onward recs r) (sym ec) (first-onward recs r);
-        child = ec ∙ ap (λ (n : ℕ). nth recs n (first recs r)) (sym (i .i));
-        count = let z : at .i ≡ 0 = i .i in let y : many recs c ≡ many recs (first recs r) = ap (many recs) ec in omega arith;
-        f = refl;
-        label = refl;
-        depth = refl;
-        deep = λ lt. lt;
-        rest = refl;
+        first = refl;
+        link = subst (Onward recs q) (sym e) (first-onward recs q);
+        fall = omega arith;
+        few = λ ne. omega (arith, ne);
         code = refl;
         consts = refl;
-        work = λ t back sc o₀ A env q m x j js er el lt hd y.
-            record {
-              past = record { names = env; state = A; more = []; longer = append-none env; still = λ e. e; rep = y; goes = λ is. refl };
-              held = hd;
-            };
+        taken = λ f. refl;
+        work = λ f r x z o′ w′ h. h;
       }
 
-  module _ {o′ : Outs} {s′ : Tested} {c′ : ℕ} {at′ : Place} (turn : Turn recs symbols refs entries spans nest r o s c at o′ s′ c′ at′) where
-    -- the index stays a word
-    index-next : Small recs → (c′ ≡ 0 → ⊥) → more (at′ .i) ≡ suc (at′ .i)
-    index-next small ne =
-        let b : many recs (first recs r) ≤ 4294967295 = many-few recs small (first recs r) in
-        let z : many recs c′ ≡ suc (many recs (next recs c′)) = width-some recs c′ ne in
-        let k : at′ .i + many recs c′ ≡ many recs (first recs r) = turn .count in
-        let l : at′ .i < limit = omega arith in
-        on-true (ltb (at′ .i) limit) _ _ (lt-ltb (at′ .i) limit l) ∙ omega arith
-
-    onward : (x : ℕ) → x ≡ next recs c′ → (c′ ≡ 0 → ⊥) → Onward recs r x
-    onward x e ne = subst (Onward recs r) (sym e) (go (turn .link) (next-onward recs c′))
-      where
-        go : Onward recs r c′ → Onward recs c′ (next recs c′) → Onward recs r (next recs c′)
-        go (inl z) b = absurd (ne z)
-        go (inr a) (inl z) = inl z
-        go (inr (a, b)) (inr (u, v)) = inr (omega arith, v)
-
-    pub turn-again : {o″ : Outs} {s″ : Tested} {at″ : Place} {c″ : ℕ} → Small recs → (r ≡ 0 → ⊥) → (c′ ≡ 0 → ⊥)
-        → Visits recs symbols refs entries spans nest o′ s′ o″ s″ c′ at′ → c″ ≡ next recs c′ → Beside at′ at″ → length (o″ .code) ≡ length (o′ .code)
-        → length (o″ .consts) ≡ length (o′ .consts) → Turn recs symbols refs entries spans nest r o s c at o″ s″ c″ at″
-    turn-again {o″ = o″} {s″ = s″} {at″ = at″} {c″ = c″} small nr ne v ec b zo zc =
+  module _ {o₀ o o₁ o₂ : Outs} {w₀ w w₁ w₂ : List ℕ} {c₀ c x i : ℕ} {s₀ s s′ : CleanStack} where
+    -- one item of a List
+    pub turn-item : {j : ℕ} → Turn recs notes item q d o₀ w₀ c₀ s₀ o w c i s → (c ≡ 0 → ⊥) → GetsItem recs o w o₁ w₁ (int i) → VisitsPattern recs notes o₁ w₁ o₂ w₂ c d s s′
+        → x ≡ next recs c → j ≡ more i → length (o₂ .code) ≡ length (o .code) → length (o₂ .consts) ≡ length (o .consts)
+        → Turn recs notes item q d o₀ w₀ c₀ s₀ o₂ w₂ x j s′
+    turn-item {j} t ne g k ex ej lc ls =
         record {
-          link = onward c″ ec ne;
-          child = ec ∙ ap (next recs) (turn .child) ∙ nth-next recs (at′ .i) (first recs r) ∙ ap (λ (n : ℕ). nth recs n (first recs r)) (sym index);
-          count = let z : at″ .i ≡ suc (at′ .i) = index in omega (arith, one-more recs (first recs r) (at′ .i) c′ c″ (turn .count) ne ec);
-          f = b .f ∙ turn .f;
-          label = b .label ∙ turn .label;
-          depth = b .depth ∙ turn .depth;
-          deep = λ lt.
-              let g : at′ .depth < s′ .taken = turn .deep lt in
-              let n : s′ .taken ≤ labels-visited (partOf (at′ .part)) (at′ .depth) (s′ .taken) (words recs c′) (own-kids recs c′)
-              = visited-more (partOf (at′ .part)) (at′ .depth) (s′ .taken) (words recs c′) (own-kids recs c′) in
-              omega (arith, v .taken, b .depth);
-          rest = after-same (b .part) (b .depth) (v .taken) rest-trees
-              ∙ sym (ap (labels-after (partOf (at′ .part)) (at′ .depth) (s′ .taken)) (own-tree-record recs c′ ne)) ∙ turn .rest;
-          code = zo ∙ turn .code;
-          consts = zc ∙ turn .consts;
-          work = λ t back sc o₀ A env q m x j js er el lt hd y.
-              let w = turn .work t back sc o₀ A env q m x j js er el lt hd y in
-              let after : List Step → List Step
-              = λ is. inside-steps (next-part (partOf (at′ .part))) m (at′ .depth)
-              (labels-visited (partOf (at′ .part)) (at′ .depth) (s′ .taken) (words recs c′) (own-kids recs c′)) (j ∷ js) (suc (at′ .i))
-              (own-tree (forest recs (next recs c′)))
-              (say Pop 0 ∷ is) in
-              let u = v .visits t back sc o₀ (w .past .state) (w .past .names) q m x (j ∷ js) j (js ++ (at′ .i ∷ []))
-              (reach-below recs (nth recs j (first recs q)) js r (at′ .i) c′ er nr (turn .child)) (turn .label ∙ el) (turn .deep lt) (w .held) (w .past .rep) in
-              let u′ = subst (λ (z : ℕ). Reached (run-of recs nest t z q o₀) m x
-              (part-steps (partOf (at′ .part)) m (at′ .depth) (s′ .taken) (j ∷ js) (j ∷ (js ++ (at′ .i ∷ []))) (at′ .i) (words recs c′) (own-kids recs c′))
-              (w .past .names)
-              (w .past .state) end (s″ .taken) o″ (s″ .run)) (turn .f) u in
-              then-reached w
-              (from-reached
-              (λ is. ap (λ (z : Nodes). inside-steps (partOf (at′ .part)) m (at′ .depth) (s′ .taken) (j ∷ js) (at′ .i) z (say Pop 0 ∷ is)) (own-tree-record recs c′ ne))
-              (to-reached (λ is. inside-same m (j ∷ js) (say Pop 0 ∷ is) (sym (b .part)) (sym (b .depth)) (sym (v .taken)) (sym index) (sym rest-trees))
-              (before-reached after u′)));
+          first = k .first ∙ t .first;
+          link = onward-next recs q c x (t .link) ne ex;
+          fall = omega (arith, rank-next recs c x ex, t .fall);
+          few = rises recs c x i j ne ex (t .few ne) (omega (arith, ej, more-least i));
+          code = lc ∙ t .code;
+          consts = ls ∙ t .consts;
+          taken = λ f.
+              let h = k .taken (child-deep recs d q c (t .link) f) in
+              t .taken f ∙ item-after recs d (s .taken) c ne
+              ∙ ap₂ (λ (n l : ℕ). labels-after item d n (own-tree (forest recs l))) (sym h) (sym ex);
+          work = λ f r y e o′ w′ z.
+              let deep = child-deep recs d q c (t .link) f in
+              let tested = k .visits deep r y (ap (λ (l : LabelId). l .0) (t .first) ∙ e) in
+              t .work f r y e o′ w′ (resim (λ v sc A.
+              item-turn recs notes r y d (s .taken) q i c A ne
+              ∙ same-inside recs notes item r y d q _ (sym (k .taken deep)) (sym (one-more recs q c i j (t .link) ne (f .0) (t .few ne) ej)) (sym ex))
+              (then (then (moves-sim (g .moves r q)) tested) z));
         }
-      where
-        index : at″ .i ≡ suc (at′ .i)
-        index = b .i ∙ index-next small ne
 
-        rest-trees : own-tree (forest recs c″) ≡ own-tree (forest recs (next recs c′))
-        rest-trees = ap (λ (z : ℕ). own-tree (forest recs z)) ec
+    -- one pair of a Table; the last may lack its pattern
+    pub turn-pair : {l : ℕ} → Turn recs notes key q d o₀ w₀ c₀ s₀ o w c i s → (c ≡ 0 → ⊥) → l ≡ next recs c → GetsItem recs o w o₁ w₁ (lit-of (words recs c))
+        → VisitsPattern recs notes o₁ w₁ o₂ w₂ l d s s′ → x ≡ next recs l → length (o₂ .code) ≡ length (o .code) → length (o₂ .consts) ≡ length (o .consts)
+        → Turn recs notes key q d o₀ w₀ c₀ s₀ o₂ w₂ x (suc (suc i)) s′
+    turn-pair {l} t ne el g k ex lc ls =
+        let at : Onward recs q l = onward-next recs q c l (t .link) ne el in
+        record {
+          first = k .first ∙ t .first;
+          link = onward-past recs q l x at ex;
+          fall = omega (arith, rank-next recs c l el, rank-next recs l x ex, t .fall);
+          few = twice recs c l x i ne el ex (t .few ne);
+          code = lc ∙ t .code;
+          consts = ls ∙ t .consts;
+          taken = λ f.
+              let h = k .taken (child-deep recs d q l at f) in
+              t .taken f ∙ key-after recs d (s .taken) c ne ∙ ap (λ (y : ℕ). labels-after value d (s .taken) (own-tree (forest recs y))) (sym el)
+              ∙ value-after recs d (s .taken) l ∙ ap₂ (λ (n y : ℕ). labels-after key d n (own-tree (forest recs y))) (sym h) (sym ex);
+          work = λ f r y e o′ w′ z.
+              let deep = child-deep recs d q l at f in
+              let tested = k .visits deep r y (ap (λ (m : LabelId). m .0) (t .first) ∙ e) in
+              t .work f r y e o′ w′ (resim (λ v sc A.
+              key-turn recs notes r y d (s .taken) q i c A ne
+              ∙ ap (λ (n : ℕ). inside-run notes r value y d (s .taken) q (suc i) (forest recs n) (item-run r c (lit-of (words recs c)) A)) (sym el)
+              ∙ value-turn recs notes r y d (s .taken) q (suc i) l (item-run r c (lit-of (words recs c)) A)
+              ∙ same-inside recs notes key r y d q _ (sym (k .taken deep)) refl (sym ex))
+              (then (then (moves-sim (g .moves r c)) tested) z));
+        }
 
--- a Table or List, whole
-module _ (recs symbols refs entries spans : List ℕ) (nest : Bool) {o o₁ o₂ o₃ : Outs} {s s₁ s₂ s₃ : Tested} {r c₂ c₃ : ℕ} {at at₂ at₃ : Place} where
-  pub visit-nested : {o₄ : List ℕ} {s₄ : Tested} → Leads recs nest o s o₁ s₁ r at → is-pattern-part (partOf (at .part)) ≡ true → is-nested (words recs r) ≡ true
-      → Begins recs nest o₁ s₁ o₂ s₂ r at → Inside (words recs r) at at₂ → c₂ ≡ first recs r → Turn recs symbols refs entries spans nest r o₂ s₂ c₂ at₂ o₃ s₃ c₃ at₃
-      → c₃ ≡ 0
-      → Pops nest (o₃ .code) s₃ o₄ s₄ → Visits recs symbols refs entries spans nest o s (outs o₄ (o₃ .consts)) s₄ r at
-  visit-nested {s₄ = s₄} le ea en b i ec turn e h =
+-- ---- a Table or List: its label, its tests, its children and a Pop
+
+-- the words count as the rules do, as long as the depth is a word
+grown-exact : (d h : ℕ) → suc d < limit → cond (ltb (suc d) h) h (more h) ≡ grown d h
+grown-exact d h lt = go (ltb (suc d) h) refl
+  where
+    go : (b : Bool) → ltb (suc d) h ≡ b → cond b h (more h) ≡ cond b h (suc h)
+    go true e = refl
+    go false e = more-exact h (let z : h ≤ suc d = ltb-false (suc d) h e in omega arith)
+
+bumps-grown : (b : Bool) (A : State) → cond b A (bump A) ≡ bumps (cond b 0 1) A
+bumps-grown true A = refl
+bumps-grown false A = refl
+
+size-least : (w : Words) (k : Nodes) → pattern-size w k ≤ width k
+size-least w k = go (is-kind 37 w)
+  where
+    go : (b : Bool) → cond b (width k / 2) (width k) ≤ width k
+    go true = omega arith
+    go false = omega arith
+
+-- the run of a nested pattern, its numbers by other names
+nested-run : (recs notes : List ℕ) (r x d h q n g D c : ℕ) (a : Part) (A : State) → (q ≡ 0 → ⊥) → is-nested (words recs q) ≡ true → parts (words recs q) ≡ a
+    → n ≡ pattern-size (words recs q) (own-tree (children recs q)) → g ≡ grown d h → D ≡ suc d → c ≡ first recs q
+    → first-run notes r x d h (forest recs q) A
+    ≡ emit (mark r (Do Pop 0)) (inside-run notes r a x D g q 0 (forest recs c) (table-run r (x + suc d) q (words recs q) n (bumps (cond (ltb D h) 0 1) A)))
+unfolding pattern-run
+nested-run recs notes r x d h q n g D c a A nq en ea es eg eD ec =
+    first-some recs notes r x d h q A nq ∙ on-true (is-nested w) _ _ en
+    ∙ ap (λ (B : State). run (parts w) (suc d) (grown d h) (first recs q) (pattern-size w (own-tree (children recs q))) B) (bumps-grown (ltb (suc d) h) A)
+    ∙ ap₂ (λ (p : Part) (k : ℕ). run p k (grown d h) (first recs q) (pattern-size w (own-tree (children recs q))) (bumps (cond (ltb k h) 0 1) A)) ea (sym eD)
+    ∙ ap₂ (λ (i f : ℕ). run a D i f (pattern-size w (own-tree (children recs q))) (bumps (cond (ltb D h) 0 1) A)) (sym eg) (sym ec)
+    ∙ ap (λ (m : ℕ). run a D g c m (bumps (cond (ltb D h) 0 1) A)) (sym es)
+  where
+    w : Words
+    w = words recs q
+
+    run : Part → ℕ → ℕ → ℕ → ℕ → State → State
+    run p k i f m B = emit (mark r (Do Pop 0)) (inside-run notes r p x k i q 0 (forest recs f) (table-run r (x + suc d) q w m B))
+
+module _ (recs notes : List ℕ) {q d D n l c₀ c i : ℕ} {s s₁ s₂ : CleanStack} {code consts w w₁ : List ℕ} {o₂ : Outs} {w₂ code₃ consts₃ w₃ code₄ w₄ : List ℕ} where
+  pub nested-visits : (a : Part) → (q ≡ 0 → ⊥) → parts (words recs q) ≡ a → is-nested (words recs q) ≡ true → c₀ ≡ first recs q
+      → n ≡ cap (pattern-size (words recs q) (own-tree (children recs q))) → D ≡ more d → Deepens w w₁ s s₁ D → l ≡ cap (s₁ .first .0 + D)
+      → ((p : ℕ) → WithLabel recs (outs code consts) w₁ o₂ w₂ l (λ r y. table-run r y p (words recs q) n)) → Turn recs notes a q D o₂ w₂ c₀ s₁ (outs code₃ consts₃) w₃ c i s₂
+      → c ≡ 0 → Pushes code₃ w₃ code₄ w₄ (pairOf 0 0) → VisitsPattern recs notes (outs code consts) w (outs code₄ consts₃) w₄ q d s s₂
+  nested-visits a nq ea en e₀ es eD deep el test t ec pop =
       record {
-        taken = h .taken ∙ sym (ap (labels-after (partOf (at₃ .part)) (at₃ .depth) (s₃ .taken)) (own-tree-none recs c₃ e)) ∙ turn .rest
-            ∙ after-same (i .part) (i .depth) taken (sym kids) ∙ sym (visited-if recs symbols refs entries spans nest le ea true en);
-        visits = λ t back sc o₀ A env q m x p j js er el lt hd y.
-            let inside : List Step → List Step
-            = λ is. inside-steps (parts (words recs r)) m (suc (at .depth)) (grown (at .depth) (s .taken)) (j ∷ js) 0 (own-kids recs r) is in
-            let there : suc (at .depth) < grown (at .depth) (s .taken) = depth-there (at .depth) (s .taken) lt in
-            let l = lead-reached recs nest t (at .f) q o₀ p le env m x A hd y in
-            let k = then-reached (before-reached (λ is. pattern-steps m (at .depth) (s₁ .taken) (j ∷ js) (words recs r) (own-kids recs r) inside is) l)
-            (to-reached (λ is. inside-same m (j ∷ js) (say Pop 0 ∷ is) (sym (i .part)) (sym (i .depth)) (sym taken) (sym (i .i)) kids)
-            (open-reached recs nest t (at .f) q o₀ b en (own-kids recs r) (own-kids-nested recs r en) inside (l .past .names) m x (l .past .state) (j ∷ js) el
-            (subst (λ (n : ℕ). suc (at .depth) < grown (at .depth) n) (sym (le .taken)) there) (l .held) (l .past .rep))) in
-            let u = turn .work t back sc o₀ (k .past .state) (k .past .names) q m x j js er (i .label ∙ el) (omega (arith, taken, i .depth)) (k .held) (k .past .rep) in
-            let u′ = subst (λ (z : ℕ). Reached (run-of recs nest t z q o₀) m x (Inner recs m (j ∷ js) s₂ c₂ at₂) (k .past .names) (k .past .state)
-            (Inner recs m (j ∷ js) s₃ c₃ at₃)
-            (s₃ .taken) o₃ (s₃ .run)) (i .f) u in
-            let v = to-reached
-            (λ is. ap (λ (z : Nodes). inside-steps (partOf (at₃ .part)) m (at₃ .depth) (s₃ .taken) (j ∷ js) (at₃ .i) z (say Pop 0 ∷ is)) (own-tree-none recs c₃ e))
-            (then-reached k u′) in
-            from-reached (led-steps recs symbols refs entries spans nest le ea m p (j ∷ js))
-            (then-reached v (pop-reached recs nest t (at .f) q o₀ h (v .past .names) m x (v .past .state) (v .held) (v .past .rep)));
+        first = t .first ∙ deep .first;
+        taken = λ f.
+            sym (after-none recs a D (s₂ .taken) c ec) ∙ sym (t .taken (fits f))
+            ∙ ap (λ (k : ℕ). labels-after a D (s₁ .taken) (own-tree (forest recs k))) e₀
+            ∙ ap₂ (λ (k h : ℕ). labels-after a k h (own-tree (children recs q))) (depth f) (labels f)
+            ∙ ap (λ (p : Part). labels-after p (suc d) (grown d (s .taken)) (own-tree (children recs q))) (sym ea)
+            ∙ sym (on-true (is-nested (words recs q)) _ _ en) ∙ some q nq;
+        visits = λ f r x e.
+            let label : l ≡ cap (x + suc d)
+            = el ∙ ap (λ (k : LabelId). cap (k .0 + D)) (deep .first) ∙ cap-after (s .first .0) D x e ∙ ap (λ (k : ℕ). cap (x + k)) (depth f) in
+            let opened : Sim (lent recs notes) (outs code consts) w (outs code consts) w₁ (λ v. bumps (cond (ltb D (s .taken)) 0 1))
+            = record { sim = λ z v o A h. labelled {n = cond (ltb D (s .taken)) 0 1} (record { label = refl; frame = deep .frame }) h } in
+            let inside = t .work (fits f) r x (ap (λ (k : LabelId). k .0) (deep .first) ∙ e) (outs code₃ consts₃) w₃
+            (resim (λ v z A. inside-none recs notes r a x D (s₂ .taken) q i c A ec) stay) in
+            let closed : Sim (lent recs notes) (outs code₃ consts₃) w₃ (outs code₄ consts₃) w₄ (λ v. emit (mark r (Do Pop 0)))
+            = record { sim = λ z v o A h. said r Pop 0 refl refl pop h } in
+            resim (λ v z A. nested-run recs notes r x d (s .taken) q n (s₁ .taken) D c₀ a A nq en ea (count (f .0)) (labels f) (depth f) e₀)
+            (then (then (then opened (moves-sim (test q .moves r (x + suc d) label))) inside) closed);
       }
     where
-      taken : s₂ .taken ≡ grown (at .depth) (s .taken)
-      taken = b .taken ∙ ap (grown (at .depth)) (le .taken)
+      some : (q : ℕ) → (q ≡ 0 → ⊥) → labels-visited d (s .taken) (words recs q) (children recs q) ≡ first-labels d (s .taken) (forest recs q)
+      some zero ne = absurd (ne refl)
+      some (suc q) ne = sym (ap (first-labels d (s .taken)) (forest-record recs q))
 
-      kids : own-kids recs r ≡ own-tree (forest recs c₂)
-      kids = own-kids-nested recs r en ∙ ap (λ (z : ℕ). own-tree (forest recs z)) (sym ec)
+      within : Deep recs d q → suc d < limit
+      within (m, inl e) = absurd (nq e)
+      within (m, inr (x, y)) = omega arith
 
--- ---- the measure, and the depth
+      depth : Deep recs d q → D ≡ suc d
+      depth f = eD ∙ more-exact d (omega (arith, within f))
 
-pub falls-below : (recs : List ℕ) (r c t : ℕ) → Onward recs r c → (c ≡ 0 → ⊥) → size recs - r ≡ t → size recs - c < t
-falls-below recs r c t (inl e) ne q = absurd (ne e)
-falls-below recs r c t (inr (a, b)) ne q = omega arith
+      fits : Deep recs d q → Fits recs D q
+      fits (m, inl e) = absurd (nq e)
+      fits (m, inr (x, y)) = (m, omega (arith, depth (m, inr (x, y))))
 
-pub deeper : (recs : List ℕ) (r c d d′ : ℕ) → Onward recs r c → (c ≡ 0 → ⊥) → d′ ≡ suc d → d + 1 < r → d′ + 1 < c
-deeper recs r c d d′ (inl e) ne q lt = absurd (ne e)
-deeper recs r c d d′ (inr (a, b)) ne q lt = omega arith
+      labels : Deep recs d q → s₁ .taken ≡ grown d (s .taken)
+      labels f = deep .taken ∙ ap (λ (k : ℕ). cond (ltb k (s .taken)) (s .taken) (more (s .taken))) (depth f) ∙ grown-exact d (s .taken) (within f)
+
+      count : size recs < limit → n ≡ pattern-size (words recs q) (own-tree (children recs q))
+      count m = es ∙ (let z = size-least (words recs q) (own-tree (children recs q)) in omega (arith, z, width-most recs (first recs q)))

@@ -1,108 +1,111 @@
--- How far a list of steps has come with the state and the labels' names, and the contracts of a pattern's visit and of the tests of all Cases. Definitions only.
-use mathlib.Core.Path.{_≡_}
-use mathlib.Core.Bool.{Bool}
-use mathlib.Core.List.{List, _∷_, _++_}
-use Prim.Native.Nat.{ℕ, _+_, _≤_, _<_}
-use lib.ListN.{length, getD}
-use Rattle.tables.specs.Record.{words}
-use Rattle.tables.specs.Forest.{first, forest, own-tree}
-use Rattle.pool.specs.Names.{Semantic}
-use Rattle.rules.specs.declared.Flow.the-variants.{Go}
-use Rattle.rules.specs.Step.{Path, Step, takes, width}
-use Rattle.rules.specs.Run.{State, flow, labels}
-use Rattle.rules.specs.Patterns.{pattern-labels, test-steps, case-tests, case-labels, cases-tests, cleanup}
-use Rattle.emit.specs.Sim.{cap, lent, Scoped, Outs, outs, Rep}
-use Rattle.emit.specs.Does.{nth, reach, part}
-use Rattle.emit.specs.declared.run.Run.{Run}
-use Rattle.pattern.specs.declared.place.Place.{Place}
-use Rattle.pattern.specs.declared.place.Tested.{Tested}
-use Rattle.pattern.specs.Shapes.{partOf, own-kids, part-steps, labels-visited}
+-- What the tests of a Match's Cases do to a state, by record numbers and with labels by number: the runs of the steps of rules' Patterns, name by name.
+-- Definitions only.
+use mathlib.Core.Bool.{cond}
+use mathlib.Core.List.{List, [], _∷_}
+use Prim.Native.Nat.{ℕ, zero, suc, _+_, _-_}
+use lib.Dec.{ltb, eqb}
+use Rattle.tables.specs.Record.{Words, is-kind, is-function}
+use Rattle.tables.specs.Forest.{Forest, none, tree, own-tree}
+use Rattle.pool.specs.Value.{Value, lit, int}
+use Rattle.pool.specs.Notes.{store-noted}
+use Rattle.rules.specs.Marker.{Jump, PopJumpIfFalse, JumpPopIfNull, LoadConst, Pop, Copy, Eq, TypeCheck, GetLen, Label, To, Load, Do, mark}
+use Rattle.rules.specs.Step.{Set}
+use Rattle.rules.specs.Patterns.{Part, item, key, value, parts, next-part, is-pattern-part, is-nested, grown, labels-after, pattern-size}
+use Rattle.rules.specs.Run.{State, labels, emit, bump, sought}
+use Rattle.plain.specs.Runs.{item-run}
 
--- the labels of one pattern, h of them, the first at place m of env: while the run goes on they are x, x + 1, .. and no other was taken since
-pub record Held (env : List ℕ) (m h x : ℕ) (A : State) : Type 0 where
-  pub long : length env ≡ m + h
-  pub named : flow A ≡ Go → (k : ℕ) → k < h → getD env (m + k) 0 ≡ x + k
-  pub next : flow A ≡ Go → labels A ≡ x + h
+-- the value of a Lit pattern or key: "35 Lit, 36 Ident, worded as 1 and 2"
+abbrev pub lit-of : Words → Value
+lit-of w = lit (w .detail) (w .p) (w .q)
 
--- what a run of steps is about: the tables, the function's record f, the record r whose steps they are, the output at its start
-pub record Run-of : Type 0 where
-  pub records : List ℕ
-  pub nest : Bool
-  pub t : Semantic
-  pub f : ℕ
-  pub r : ℕ
-  pub o₀ : Outs
+-- the children in a function's own tree: "Nested functions count for themselves"
+abbrev pub own : Words → Forest → Forest
+own w k = cond (is-function w) none k
 
--- from env and A the steps `from is` have come to the steps `to is`, whatever follows
-pub record Past (g : Run-of) (from : List Step → List Step) (env : List ℕ) (A : State) (to : List Step → List Step) (o : Outs) (s : Run) : Type 0 where
-  pub names : List ℕ
-  pub state : State
-  pub more : List ℕ
-  pub longer : names ≡ env ++ more
-  pub still : flow state ≡ Go → flow A ≡ Go
-  pub rep : Rep (g .records) (g .nest) (g .o₀) state o s
-  pub goes : (is : List Step)
-      → part (g .records) (g .nest) (g .t) (g .f) (g .r) (from is) env A ≡ part (g .records) (g .nest) (g .t) (g .f) (g .r) (to is) names state
+-- the clean-up labels after a pattern at depth d, of h taken before it: "for each pattern 1 + the most Table and List patterns on one path down it"
+abbrev pub labels-visited : ℕ → ℕ → Words → Forest → ℕ
+labels-visited d h w k = cond (is-nested w) (labels-after (parts w) (suc d) (grown d h) (own-tree k)) h
 
--- the same with the labels of one pattern
-pub record Reached (g : Run-of) (m x : ℕ) (from : List Step → List Step) (env : List ℕ) (A : State) (to : List Step → List Step) (h : ℕ) (o : Outs) (s : Run) :
-    Type 0 where
-  pub past : Past g from env A to o s
-  pub held : Held (past .names) m h x (past .state)
+-- the same of the first of some records
+abbrev pub first-labels : ℕ → ℕ → Forest → ℕ
+first-labels d h none = h
+first-labels d h (tree q w k s) = labels-visited d h w k
 
--- and with the number of labels after it
-pub record Ended (g : Run-of) (from : List Step → List Step) (env : List ℕ) (A : State) (to : List Step → List Step) (n : ℕ) (o : Outs) (s : Run) : Type 0 where
-  pub past : Past g from env A to o s
-  pub long : length (past .names) ≡ n
+-- get_or_push_pattern_clean_stack_label at depth d + 1, of h labels taken
+abbrev pub grown-run : ℕ → ℕ → State → State
+grown-run d h A = cond (ltb (suc d) h) A (bump A)
 
--- the same, made
-abbrev pub run-of : List ℕ → Bool → Semantic → ℕ → ℕ → Outs → Run-of
-run-of recs nest t f r o₀ = record { records = recs; nest = nest; t = t; f = f; r = r; o₀ = o₀ }
+-- the Match's record is r, and all that names no constant is its own; a constant is brought by the record that the steps name
+module _ (r : ℕ) where
+  -- before the child i of the pattern q, which is the record l
+  abbrev pub lead-run : Part → ℕ → ℕ → ℕ → Words → State → State
+  lead-run item q i l w A = item-run r q (int i) A
+  lead-run key q i l w A = item-run r l (lit-of w) A
+  lead-run value q i l w A = A
 
--- nothing is left but what follows
-abbrev pub end : List Step → List Step
-end is = is
+  -- a copy is a table; its length is n; where the test fails the label is y
+  abbrev pub type-run : ℕ → State → State
+  type-run y A = emit (mark r (To PopJumpIfFalse y)) (emit (mark r (Do TypeCheck 6)) (emit (mark r (Do Copy 1)) A))
 
--- visit_pattern_depth of the record c at a place: the child i of a pattern, as one of its parts
-pub record Visits (recs symbols refs entries spans : List ℕ) (nest : Bool) (o : Outs) (s : Tested) (o′ : Outs) (s′ : Tested) (c : ℕ) (at : Place) : Type 0 where
-  pub taken : s′ .taken ≡ labels-visited (partOf (at .part)) (at .depth) (s .taken) (words recs c) (own-kids recs c)
-  pub visits : (t : Semantic) (back : List ℕ) → Scoped t (lent recs symbols refs entries spans back)
-      → (o₀ : Outs) (A : State) (env : List ℕ) (r m x : ℕ) (p : Path) (j : ℕ) (js : Path)
-      → reach recs (nth recs j (first recs r)) js ≡ c → at .label ≡ cap x → at .depth < s .taken → Held env m (s .taken) x A
-      → Rep recs nest o₀ A o (s .run)
-      → Reached (run-of recs nest t (at .f) r o₀) m x
-      (part-steps (partOf (at .part)) m (at .depth) (s .taken) p (j ∷ js) (at .i) (words recs c) (own-kids recs c)) env A end (s′ .taken) o′ (s′ .run)
+  abbrev pub length-run : ℕ → ℕ → ℕ → State → State
+  length-run y q n A =
+      emit (mark r (To PopJumpIfFalse y)) (emit (mark r (Do Eq 0)) (emit (mark q (Load LoadConst (int n)))
+      (emit (mark r (Do GetLen 0)) (emit (mark r (Do Copy 1)) A))))
 
--- the h clean-up labels of one pattern, the first of which is l: "for each pattern 1 + the most Table and List patterns on one path down it"
-pub record Cleans (nest : Bool) (o : List ℕ) (s : Run) (o′ : List ℕ) (s′ : Run) (l h : ℕ) : Type 0 where
-  pub cleans : (records cs : List ℕ) (t : Semantic) (f r : ℕ) (o₀ : Outs) (A : State) (env : List ℕ) (m x : ℕ) → l ≡ cap x → Held env m h x A
-      → Rep records nest o₀ A (outs o cs) s
-      → Ended (record { records = records; nest = nest; t = t; f = f; r = r; o₀ = o₀ }) (cleanup m h) env A end (length env) (outs o′ cs) s′
+  abbrev pub table-run : ℕ → ℕ → Words → ℕ → State → State
+  table-run y q w n A = cond (eqb (w .detail) 1) (type-run y A) (length-run y q n (type-run y A))
 
--- one pattern of a Case, at record c; l is the label of the Case's block
-pub record Tries (recs symbols refs entries spans : List ℕ) (nest : Bool) (o : Outs) (s : Run) (o′ : Outs) (s′ : Run) (f c l : ℕ) : Type 0 where
-  pub tries : (t : Semantic) (back : List ℕ) → Scoped t (lent recs symbols refs entries spans back) → (o₀ : Outs) (A : State) (env : List ℕ) (r m i y j : ℕ) (js : Path)
-      → reach recs (nth recs j (first recs r)) js ≡ c → m ≡ length env → l ≡ cap y → (flow A ≡ Go → getD env i 0 ≡ y) → i < m
-      → Rep recs nest o₀ A o s
-      → Ended (run-of recs nest t f r o₀) (test-steps m i (j ∷ js) (words recs c) (own-kids recs c)) env A end
-      (m + pattern-labels (words recs c) (own-kids recs c)) o′ s′
+  -- PatternKind::Lit
+  abbrev pub lit-run : ℕ → ℕ → Words → State → State
+  lit-run y q w A = emit (mark r (To PopJumpIfFalse y)) (emit (mark r (Do Eq 0)) (emit (mark q (Load LoadConst (lit-of w))) A))
 
--- "33 Case: p patterns, expr": the patterns of the Case at record c, the child j of the Match at record r; its block's label stands at place j
-pub record CaseTests (recs symbols refs entries spans : List ℕ) (nest : Bool) (o : Outs) (s : Run) (o′ : Outs) (s′ : Run) (f c l : ℕ) : Type 0 where
-  pub tests : (t : Semantic) (back : List ℕ) → Scoped t (lent recs symbols refs entries spans back) → (o₀ : Outs) (A : State) (env : List ℕ) (r m y j : ℕ)
-      → nth recs j (first recs r) ≡ c → m ≡ length env → l ≡ cap y → (flow A ≡ Go → getD env j 0 ≡ y) → j < m → Rep recs nest o₀ A o s
-      → Ended (run-of recs nest t f r o₀) (case-tests m j j 0 (words recs c .p) (own-kids recs c)) env A end
-      (m + case-labels (words recs c .p) (own-kids recs c)) o′ s′
+  -- the clean-up labels, n behind the first, from the last on, with a Pop between two
+  unfoldable pub cleanup-run : ℕ → ℕ → State → State
+  cleanup-run x zero A = emit (mark r (Label x)) A
+  cleanup-run x (suc n) A = cleanup-run x n (emit (mark r (Do Pop 0)) (emit (mark r (Label (x + suc n))) A))
 
--- "15 Match: expr, Cases": the patterns of the Cases from record c on, the children from the j-th on of the Match at record r, as are their blocks' labels
-pub record Tests (recs symbols refs entries spans : List ℕ) (nest : Bool) (o : Outs) (s : Run) (o′ : Outs) (s′ : Run) (f c l : ℕ) : Type 0 where
-  pub tests : (t : Semantic) (back : List ℕ) → Scoped t (lent recs symbols refs entries spans back) → (o₀ : Outs) (A : State) (env : List ℕ) (r m y j : ℕ)
-      → nth recs j (first recs r) ≡ c → m ≡ length env → l ≡ cap y
-      → (flow A ≡ Go → (k : ℕ) → k < width (own-tree (forest recs c)) → getD env (j + k) 0 ≡ y + k)
-      → j + width (own-tree (forest recs c)) ≤ m → Rep recs nest o₀ A o s
-      → Past (run-of recs nest t f r o₀) (cases-tests m j (own-tree (forest recs c))) env A end o′ s′
+module _ (notes : List ℕ) (r : ℕ) where
+  -- PatternKind::Ident
+  abbrev pub ident-run : ℕ → ℕ → State → State
+  ident-run y q A = sought r Set q (store-noted notes q) (emit (mark r (To JumpPopIfNull y)) A)
 
--- the labels of the blocks of the Cases from record c on: "Match 1 + cases + .."
-pub record Blocks (recs : List ℕ) (s s′ : Run) (c : ℕ) : Type 0 where
-  pub blocks : (nest : Bool) (t : Semantic) (f r : ℕ) (o₀ o : Outs) (A : State) (env : List ℕ) → Rep recs nest o₀ A o s
-      → Reached (run-of recs nest t f r o₀) (length env) (labels A) (takes (width (own-tree (forest recs c)))) env A end (width (own-tree (forest recs c))) o s′
+  -- the pattern q at depth d; its labels are x, x + 1, .., h of them taken; `inside` is its children's run
+  unfoldable pub pattern-run : ℕ → ℕ → ℕ → ℕ → Words → Forest → (State → State) → State → State
+  pattern-run x d h q w k inside A =
+      cond (is-nested w) (emit (mark r (Do Pop 0)) (inside (table-run r (x + suc d) q w (pattern-size w (own-tree k)) (grown-run d h A))))
+      (cond (is-kind 36 w) (ident-run (x + d) q A) (lit-run r (x + d) q w A))
+
+  -- the children of the pattern q from the i-th on, at depth d
+  unfoldable pub inside-run : Part → ℕ → ℕ → ℕ → ℕ → ℕ → Forest → State → State
+  inside-run part x d h q i none A = A
+  inside-run part x d h q i (tree l w k s) A =
+      let here = pattern-run x d h l w k (inside-run (parts w) x (suc d) (grown d h) l 0 k) in
+      let B = lead-run r part q i l w A in
+      inside-run (next-part part) x d (cond (is-pattern-part part) (labels-visited d h w k) h) q (suc i) s (cond (is-pattern-part part) (here B) B)
+
+  -- the first of some records, as a pattern
+  abbrev pub first-run : ℕ → ℕ → ℕ → Forest → State → State
+  first-run x d h none A = A
+  first-run x d h (tree q w k s) A = pattern-run x d h q w k (inside-run (parts w) x (suc d) (grown d h) q 0 k) A
+
+  -- the pattern q of a Case whose block has the label y; its own labels are those that are taken next
+  unfoldable pub test-run : ℕ → ℕ → Words → Forest → State → State
+  test-run y q w k A =
+      cleanup-run r (labels A) (labels-visited 0 1 w k - 1)
+      (emit (mark r (To Jump y)) (emit (mark r (Do Pop 0)) (first-run (labels A) 0 1 (tree q w k none) (emit (mark r (Do Copy 1)) (bump A)))))
+
+  -- "33 Case: p patterns, expr": the first n of a Case's children
+  unfoldable pub case-run : ℕ → ℕ → Forest → State → State
+  case-run y n none A = A
+  case-run y zero (tree q w k s) A = A
+  case-run y (suc n) (tree q w k s) A = case-run y n s (test-run y q w k A)
+
+  -- "15 Match: expr, Cases": Cases whose blocks have the labels y, y + 1, ..
+  unfoldable pub cases-run : ℕ → Forest → State → State
+  cases-run y none A = A
+  cases-run y (tree q w k s) A = cases-run (suc y) s (case-run y (w .p) (own w k) A)
+
+-- label numbers one behind the other
+abbrev pub in-row : ℕ → ℕ → List ℕ
+in-row base zero = []
+in-row base (suc n) = base ∷ in-row (suc base) n

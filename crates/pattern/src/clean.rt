@@ -1,46 +1,61 @@
-// What stands around the visit of a Case's pattern: its first label, the jump to the Case's block, and the clean-up labels.
-use crate::count::label_at;
-use crate::place::Tested;
+// clean_stack_label_stack: its labels are taken one behind the other, so it is the first of them and how many.
 use emit::code::push_label;
-use emit::code::push_op;
+use emit::frame::Frame;
 use emit::label::get_label;
-use emit::run::Run;
+use emit::label::label_at;
+use emit::op::push_pop;
+use emit::word::inc;
 use opcode::index::LabelId;
-use opcode::opcode::OpCode;
-ghost use Rattle.pattern.specs.Shapes.{Starts, Matches};
-ghost use Rattle.pattern.specs.Tests.{Cleans};
+ghost use mathlib.Core.Path.{_≡_};
+ghost use Prim.Native.Nat.{_+_};
+ghost use Rattle.emit.specs.Words.{cap};
+ghost use Rattle.pattern.specs.Contracts.{Begins, Deepens, Cleans};
 
-// The pattern's first label is taken, and what is matched is copied.
-pub fn start(nest: bool, out: &mut [u32], st: Run) -> Tested
-    ensures { λ s. ⌜ Starts nest (now (out .entry)) st (now (out .exit)) s ⌝ }
-{
-    let s = get_label(st);
-    let run = push_op(nest, out, s, OpCode::Copy(1));
-    Tested { run, taken: 1 }
+pub struct CleanStack {
+    pub first: LabelId,
+    pub taken: u32,
 }
 
-// The pattern matches.
-pub fn matched(nest: bool, out: &mut [u32], st: Run, block: u32) -> Run
-    ensures { λ s. ⌜ Matches nest (now (out .entry)) st (now (out .exit)) s block ⌝ }
+// vec![get_label()]
+pub fn clean_stack(frame: &mut Frame) -> CleanStack
+    ensures { λ s. ⌜ Begins (now (frame .entry)) (now (frame .exit)) s ⌝ }
 {
-    let s = push_op(nest, out, st, OpCode::Pop);
-    push_op(nest, out, s, OpCode::Jump(LabelId(block)))
+    let first = get_label(frame);
+    CleanStack { first, taken: 1 }
 }
 
-// The clean-up labels from the deepest on, a Pop before each but the first.
-pub fn cleanup(nest: bool, out: &mut [u32], st: Run, label: u32, taken: usize) -> Run
-    ensures { λ s. ⌜ Cleans nest (now (out .entry)) st (now (out .exit)) s label taken ⌝ }
+// get_or_push_pattern_clean_stack_label: one label more where there is none at this depth.
+pub fn deepened(frame: &mut Frame, stack: CleanStack, depth: u32) -> CleanStack
+    ensures { λ s. ⌜ Deepens (now (frame .entry)) (now (frame .exit)) stack s depth ⌝ }
 {
-    let mut s = st;
-    let mut n = taken;
+    if depth < stack.taken {
+        return stack;
+    }
+    let first = stack.first;
+    get_label(frame);
+    CleanStack {
+        first,
+        taken: inc(stack.taken),
+    }
+}
+
+// The label at a depth.
+pub fn clean_stack_label(stack: CleanStack, depth: u32) -> LabelId
+    ensures { λ l. ⌜ l .0 ≡ cap (stack .first .0 + depth) ⌝ }
+{
+    let first = stack.first;
+    label_at(first, depth)
+}
+
+// From the last label to the first, with a Pop between two.
+pub fn clean_up(code: &mut [u32], frame: &mut Frame, stack: CleanStack)
+    ensures { λ _. ⌜ Cleans (now (code .entry)) (now (frame .entry)) (now (code .exit)) (now (frame .exit)) stack ⌝ }
+{
+    let mut n = stack.taken;
     while 1 < n {
         n -= 1;
-        let l = label_at(label, n);
-        s = push_label(nest, out, s, LabelId(l));
-        s = push_op(nest, out, s, OpCode::Pop);
+        push_label(code, frame, clean_stack_label(stack, n));
+        push_pop(code, frame);
     }
-    if n == 1 {
-        return push_label(nest, out, s, LabelId(label));
-    }
-    s
+    push_label(code, frame, clean_stack_label(stack, 0))
 }

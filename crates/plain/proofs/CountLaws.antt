@@ -1,18 +1,19 @@
 -- Counts of siblings and the siblings themselves, link by link. Assumes nothing.
 use mathlib.Core.Path.{_≡_, refl, sym, ap, ap₂, _∙_}
-use mathlib.Core.Bool.{Bool, true, false, cond, _&&_, _||_}
+use mathlib.Core.Bool.{Bool, true, false, cond, _&&_}
 use mathlib.Core.List.{List}
 use mathlib.Core.Logic.{inl, inr}
-use Prim.Native.Nat.{ℕ, zero, suc, _+_, _-_, _%_, _≤_, _<_}
+use Prim.Native.Nat.{ℕ, zero, suc, _+_, _-_, _≤_, _<_}
 use native.Mathlib.Omega.{arith}
 use lib.Dec.{eqb}
-use borrow.Author.Tests.{eq-eqb, ne-eqb}
+use borrow.Author.Tests.{eq-eqb, ne-eqb, eqb-true, eqb-false}
 use Rattle.tables.specs.Record.{Words, words, word, size, is-kind}
 use Rattle.tables.specs.Forest.{Forest, Nodes, bare, node, first, next, forest, own-tree}
 use Rattle.tables.proofs.ForestLaws.{forest-absent, forest-record, next-onward, Onward, next-zero}
 use Rattle.rules.specs.Step.{width}
-use Rattle.rules.specs.Arms.{arguments, handlers, is-method, is-tail}
-use Rattle.emit.specs.Does.{nth}
+use Rattle.rules.specs.Arms.{arguments, handlers, is-tail}
+use Rattle.emit.specs.Does.{nth, child}
+use Rattle.emit.proofs.Basics.{clash}
 use Rattle.emit.proofs.PartLaws.{width-none, width-some}
 
 fewer : (b : Bool) (n m : ℕ) → n ≤ m → cond b 0 (suc n) ≤ suc m
@@ -104,6 +105,23 @@ module _ (recs : List ℕ) where
       let z : width (row (suc c)) ≡ suc (width (row (next recs (suc c)))) = width-some recs (suc c) (λ q. omega arith) in
       nth-some j (next recs (suc c)) (omega arith) e
 
+  -- n siblings on
+  pub width-past : (n c : ℕ) → width (row c) - n ≡ width (row (nth recs n c))
+  width-past zero c = omega arith
+  width-past (suc n) zero =
+      let y : width (row 0) ≡ 0 = width-none recs 0 refl in
+      let z : width (row (nth recs (suc n) 0)) ≡ 0 = width-none recs (nth recs (suc n) 0) (nth-absent (suc n) 0 refl) in
+      omega arith
+  width-past (suc n) (suc c) =
+      let y : width (row (suc c)) ≡ suc (width (row (next recs (suc c)))) = width-some recs (suc c) (λ e. omega arith) in
+      let z : width (row (next recs (suc c))) - n ≡ width (row (nth recs n (next recs (suc c)))) = width-past n (next recs (suc c)) in
+      omega arith
+
+  -- no siblings are left where there is no record
+  pub width-zero : (c : ℕ) → width (row c) ≡ 0 → c ≡ 0
+  width-zero zero e = refl
+  width-zero (suc c) e = absurd (let z = width-some recs (suc c) (λ q. omega arith) in omega arith)
+
   -- the last one
   abbrev pub end-of : ℕ → ℕ
   end-of c = nth recs (width (row c) - 1) c
@@ -124,6 +142,19 @@ module _ (recs : List ℕ) where
       let u : width (row (suc c)) - 1 ≡ suc (width (row x) - 1) = omega arith in
       sym (ap (λ (j : ℕ). nth recs j (suc c)) u ∙ ap (nth recs (width (row x) - 1)) (sym e))
 
+  -- the first child
+  pub child-absent : (c : ℕ) → c ≡ 0 → 0 ≡ child recs c 0
+  child-absent zero e = refl
+  child-absent (suc c) e = absurd (omega arith)
+
+  pub child-function : (c k : ℕ) → k ≡ word recs c 0 → k ≡ 30 → 0 ≡ child recs c 0
+  child-function zero k e q = refl
+  child-function (suc c) k e q = sym (ap (λ (b : Bool). cond b 0 (first recs (suc c))) (eq-eqb (word recs (suc c) 0) 30 (sym e ∙ q)))
+
+  pub child-present : (c k x : ℕ) → (c ≡ 0 → ⊥) → k ≡ word recs c 0 → (k ≡ 30 → ⊥) → x ≡ first recs c → x ≡ child recs c 0
+  child-present zero k x ne e d q = absurd (ne refl)
+  child-present (suc c) k x ne e d q = q ∙ sym (ap (λ (b : Bool). cond b 0 (first recs (suc c))) (ne-eqb (word recs (suc c) 0) 30 (λ z. d (e ∙ z))))
+
   -- what a Return returns
   pub tail-none : (c : ℕ) → c ≡ 0 → false ≡ is-tail (row c)
   tail-none c e = sym (ap (λ (x : ℕ). is-tail (row x)) e ∙ ap (λ (f : Forest). is-tail (own-tree f)) (forest-absent recs))
@@ -141,6 +172,18 @@ module _ (recs : List ℕ) where
   pub tail-other : (c k : ℕ) → (c ≡ 0 → ⊥) → k ≡ word recs c 0 → (k ≡ 13 → ⊥) → false ≡ is-tail (row c)
   tail-other c k ne e d = sym (tail-some c ne ∙ tail-no (words recs c) _ (ne-eqb (word recs c 0) 13 (λ z. d (e ∙ z))))
 
+  -- what is returned by its call is a Call
+  pub tail-call : (a : ℕ) → is-tail (row a) ≡ true → (a ≡ 0 → ⊥) × (word recs a 0 ≡ 13)
+  tail-call a h = (ne, go (eqb (word recs a 0) 13) refl)
+    where
+      ne : a ≡ 0 → ⊥
+      ne e = clash (sym h ∙ sym (tail-none a e))
+
+      go : (b : Bool) → eqb (word recs a 0) 13 ≡ b → word recs a 0 ≡ 13
+      go true e = eqb-true (word recs a 0) 13 e
+      go false e = absurd (clash (sym h ∙ sym (tail-other a (word recs a 0) ne refl (eqb-false (word recs a 0) 13 e))))
+
+  -- whether a Call has Handlers, by the first record behind its arguments
   module _ (c k x : ℕ) (ne : c ≡ 0 → ⊥) (e : k ≡ word recs c 0) (q : k ≡ 13) (ex : x ≡ first recs c) where
     call : is-kind 13 (words recs c) ≡ true
     call = eq-eqb (word recs c 0) 13 (sym e ∙ q)
@@ -150,33 +193,22 @@ module _ (recs : List ℕ) where
         ap (λ (b : Bool). cond b bare (row (first recs c))) (ne-eqb (word recs c 0) 30 (λ z. let y : _≡_ {A = ℕ} 30 13 = sym z ∙ sym e ∙ q in omega arith))
         ∙ ap row (sym ex)
 
-    pub tail-alone : x ≡ 0 → true ≡ is-tail (row c)
+    -- a Call's own children, its callee first
+    tail-row : (y : ℕ) → tail-kids (words recs c) (row y) ≡ eqb (handlers (row (next recs y))) 0
     unfolding tail-kids
-    tail-alone z =
-        sym (tail-some c ne ∙ ap (tail-kids (words recs c)) (kids ∙ ap row z ∙ ap (λ (f : Forest). own-tree f) (forest-absent recs)) ∙ call)
+    tail-row zero =
+        ap (tail-kids (words recs c)) (ap (λ (f : Forest). own-tree f) (forest-absent recs)) ∙ call
+        ∙ sym (ap (λ (s : Nodes). eqb (handlers s) 0) (ap row (sym (next-zero recs 0 refl)) ∙ ap (λ (f : Forest). own-tree f) (forest-absent recs)))
+    tail-row (suc y) =
+        ap (λ (f : Forest). tail-kids (words recs c) (own-tree f)) (forest-record recs y)
+        ∙ ap (λ (b : Bool). b && eqb (handlers (row (next recs (suc y)))) 0) call
 
-    tail-with : (y : ℕ) → y ≡ suc (y - 1) → row y ≡ node (words recs y) (cond (eqb (word recs y 0) 30) bare (row (first recs y))) (row (next recs y))
-    tail-with zero z = absurd (omega arith)
-    tail-with (suc y) z = ap (λ (f : Forest). own-tree f) (forest-record recs y)
+    pub tail-by : (a n h : ℕ) → a ≡ next recs x → n ≡ arguments (row a) → h ≡ nth recs n a → eqb h 0 ≡ is-tail (row c)
+    tail-by a n h ea en eh = by (eqb h 0) refl ∙ sym (tail-some c ne ∙ ap (tail-kids (words recs c)) kids ∙ tail-row x ∙ ap (λ (z : ℕ). eqb (handlers (row z)) 0) (sym ea))
+      where
+        left : handlers (row a) ≡ width (row h)
+        left = width-past (arguments (row a)) a ∙ ap (λ (z : ℕ). width (row z)) (ap (λ (z : ℕ). nth recs z a) (sym en) ∙ sym eh)
 
-    pub tail-call : (a n : ℕ) → (x ≡ 0 → ⊥) → a ≡ next recs x → n ≡ handlers (row a) → eqb n 0 ≡ is-tail (row c)
-    unfolding tail-kids
-    tail-call a n nx ea en =
-        sym (tail-some c ne ∙ ap (tail-kids (words recs c)) (kids ∙ tail-with x (omega (arith, nx)))
-        ∙ ap (λ (b : Bool). b && eqb (handlers (row (next recs x))) 0) call ∙ ap (λ (z : ℕ). eqb (handlers (row z)) 0) (sym ea) ∙ ap (λ (z : ℕ). eqb z 0) (sym en))
-
--- a callee that is a method
-pub method-not : (w : Words) (k : ℕ) → k ≡ w .kind → (k ≡ 12 → ⊥) → false ≡ is-method w
-method-not w k e d = sym (ap (λ (b : Bool). b && (eqb (w .detail % 8) 1 || eqb (w .detail % 8) 4)) (ne-eqb (w .kind) 12 (λ z. d (e ∙ z))))
-
-module _ (w : Words) (k d : ℕ) (e : k ≡ w .kind) (q : k ≡ 12) (ed : d ≡ w .detail) where
-  member : is-method w ≡ eqb (d % 8) 1 || eqb (d % 8) 4
-  member =
-      ap (λ (b : Bool). b && (eqb (w .detail % 8) 1 || eqb (w .detail % 8) 4)) (eq-eqb (w .kind) 12 (sym e ∙ q))
-      ∙ ap (λ (z : ℕ). eqb (z % 8) 1 || eqb (z % 8) 4) (sym ed)
-
-  pub method-dot : d % 8 ≡ 1 → true ≡ is-method w
-  method-dot z = sym (member ∙ ap (λ (b : Bool). b || eqb (d % 8) 4) (eq-eqb (d % 8) 1 z))
-
-  pub method-meta : (d % 8 ≡ 1 → ⊥) → eqb (d % 8) 4 ≡ is-method w
-  method-meta z = sym (member ∙ ap (λ (b : Bool). b || eqb (d % 8) 4) (ne-eqb (d % 8) 1 z))
+        by : (b : Bool) → eqb h 0 ≡ b → eqb h 0 ≡ eqb (handlers (row a)) 0
+        by true z = z ∙ sym (eq-eqb (handlers (row a)) 0 (left ∙ width-none recs h (eqb-true h 0 z)))
+        by false z = z ∙ sym (ne-eqb (handlers (row a)) 0 (λ y. eqb-false h 0 z (width-zero h (sym left ∙ y))))

@@ -1,10 +1,10 @@
 -- A marker counts only where the run goes on, and so does the label that it names. Assumes nothing.
 use mathlib.Core.Path.{_≡_, refl, sym, ap, _∙_}
-use mathlib.Core.Bool.{Bool, true, false}
-use mathlib.Core.Logic.{_⊎_, inl, inr}
-use mathlib.Core.List.{List, _∷_, _++_}
+use mathlib.Core.Bool.{Bool, true, false, cond}
+use mathlib.Core.List.{List, _++_}
 use Prim.Native.Nat.{ℕ, suc, _+_, _<_}
 use native.Mathlib.Omega.{arith}
+use lib.Dec.{ltb}
 use lib.ListN.{getD, List·getD-append, length}
 use lib.Seq.{getD-append-add}
 use Rattle.opcode.specs.declared.opcode.Words.{Words as MarkerWords}
@@ -14,34 +14,27 @@ use Rattle.rules.specs.declared.Flow.the-variants.{Go, Cut, Refused}
 use Rattle.rules.specs.Marker.{Op, Mark, mark}
 use Rattle.rules.specs.Step.{Use}
 use Rattle.rules.specs.Run.{State, st, labels, flow, emit, bump, halt, sought}
-use Rattle.emit.specs.Sim.{cap, Outs, outs, Rep, Shown, Emits}
-use Rattle.emit.specs.Flows.{isGo}
-use Rattle.emit.specs.declared.run.Run.{Run}
-use Rattle.emit.proofs.Basics.{clash, bool-or, is-go, no-emit}
-use Rattle.emit.proofs.StateLaws.{given}
+use Rattle.emit.specs.Words.{limit, cap, MARKERS, at, goes, nests}
+use Rattle.emit.specs.Sinks.{writes, Pushes}
+use Rattle.emit.specs.Rep.{Outs, outs, Walk, Rep, Shown}
+use Rattle.emit.proofs.Basics.{isGo, clash, on-false, no-emit}
+use Rattle.emit.proofs.RepLaws.{given, went, stood}
+use Rattle.emit.proofs.MarkLaws.{pushed, same-words}
 
--- two markers that are the same where the run goes on
-pub go-same : (A : State) (x y : Mark) → (flow A ≡ Go → x ≡ y) → emit x A ≡ emit y A
-unfolding emit
-go-same (st m l ls os Go e) x y h = ap (λ (z : Mark). st (z ∷ m) l ls os Go e) (h refl)
-go-same (st m l ls os (Cut k a b) e) x y h = refl
-go-same (st m l ls os (Refused n r) e) x y h = refl
-
--- so a marker's words are asked for only there; y is what they show anyway
-pub go-shown : {recs : List ℕ} {nest : Bool} {o₀ : Outs} {o o′ cs : List ℕ} {s s′ : Run} {w : MarkerWords} (r : ℕ) (x y : Op) (A : State) → Shown w y
-    → (flow A ≡ Go → x ≡ y)
-    → Emits nest o s o′ s′ w → Rep recs nest o₀ A (outs o cs) s → Rep recs nest o₀ (emit (mark r x) A) (outs o′ cs) s′
-go-shown {recs} {nest} {o₀} {o} {o′} {cs} {s} {s′} {w} r x y A q h z d =
-    given (go-same A (mark r x) (mark r y) (λ g. ap (mark r) (h g))) (z .emits recs cs r y q .moves o₀ A d)
-
--- the same where the words are known to be the marker's there
-pub go-emits : {recs : List ℕ} {nest : Bool} {o₀ : Outs} {o o′ cs : List ℕ} {s s′ : Run} {w : MarkerWords} (r : ℕ) (x y : Op) (A : State) → Shown w y
-    → (flow A ≡ Go → Shown w x) → Emits nest o s o′ s′ w → Rep recs nest o₀ A (outs o cs) s → Rep recs nest o₀ (emit (mark r x) A) (outs o′ cs) s′
-go-emits {recs} {nest} {o₀} {o} {o′} {cs} {s} {s′} {w} r x y A q h z d = go (bool-or (isGo (flow A)))
+-- a marker's words are asked for only where the run goes on
+pub go-pushed : {c : Walk} {records : List ℕ} {o₀ : Outs} {A : State} {o w o′ w′ cs : List ℕ} {x : MarkerWords} (r : ℕ) (y : Op) → (flow A ≡ Go → Shown x y)
+    → Pushes o w o′ w′ x → Rep c records o₀ A (outs o cs) w → Rep c records o₀ (emit (mark r y) A) (outs o′ cs) w′
+go-pushed {c} {records} {o₀} {A} {o} {w} {o′} {w′} {cs} r y q k h = by (goes (at w)) refl
   where
-    go : (isGo (flow A) ≡ true) ⊎ (isGo (flow A) ≡ false) → Rep recs nest o₀ (emit (mark r x) A) (outs o′ cs) s′
-    go (inl g) = z .emits recs cs r x (h (is-go (flow A) g)) .moves o₀ A d
-    go (inr n) = given (no-emit (mark r x) A n ∙ sym (no-emit (mark r y) A n)) (z .emits recs cs r y q .moves o₀ A d)
+    no-writes : (a g b : Bool) → g ≡ false → cond a false (cond g b false) ≡ false
+    no-writes true g b e = refl
+    no-writes false g b e = on-false _ _ _ e
+
+    by : (b : Bool) → goes (at w) ≡ b → Rep c records o₀ (emit (mark r y) A) (outs o′ cs) w′
+    by true g = pushed r y (λ n. q (went h g)) k h
+    by false g =
+        let e : writes (at w) ≡ false = no-writes (nests (at w)) (goes (at w)) (ltb (at w MARKERS) limit) g in
+        same-words (k .code ∙ on-false _ _ _ e) (k .frame ∙ on-false _ _ _ e) (given (no-emit (mark r y) A (stood h g)) h)
 
 -- ---- flow and labels after a step
 
@@ -75,11 +68,12 @@ halt-labels f (st m l ls os Go e) = refl
 halt-labels f (st m l ls os (Cut k a b) e) = refl
 halt-labels f (st m l ls os (Refused n r) e) = refl
 
-halt-stops : (f : Flow) (A : State) → isGo f ≡ false → flow (halt f A) ≡ Go → ⊥
+-- what has ended does not go on
+pub halt-not : (f : Flow) (A : State) → isGo f ≡ false → isGo (flow (halt f A)) ≡ false
 unfolding halt
-halt-stops f (st m l ls os Go e) n g = clash (sym (ap isGo g) ∙ n)
-halt-stops f (st m l ls os (Cut k a b) e) n g = clash (sym (ap isGo g))
-halt-stops f (st m l ls os (Refused x r) e) n g = clash (sym (ap isGo g))
+halt-not f (st m l ls os Go e) n = n
+halt-not f (st m l ls os (Cut k a b) e) n = refl
+halt-not f (st m l ls os (Refused x r) e) n = refl
 
 -- a name takes no label, and where the run goes on after it, it went on before
 pub sought-labels : (r : ℕ) (u : Use) (i : ℕ) (x : Access) (A : State) → labels (sought r u i x A) ≡ labels A
@@ -92,7 +86,7 @@ pub sought-flow : (r : ℕ) (u : Use) (i : ℕ) (x : Access) (A : State) → flo
 sought-flow r u i (local n) A g = sym (emit-flow _ A) ∙ g
 sought-flow r u i (global n) A g = sym (emit-flow _ A) ∙ g
 sought-flow r u i (upvalue n) A g = sym (emit-flow _ A) ∙ g
-sought-flow r u i (missing x) A g = absurd (halt-stops (Refused x i) A refl g)
+sought-flow r u i (missing x) A g = absurd (clash (sym (ap isGo g) ∙ halt-not (Refused x i) A refl))
 
 -- ---- labels by their names
 

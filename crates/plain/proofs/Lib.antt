@@ -1,10 +1,7 @@
-pub mod CountLaws
-pub mod LeafLaws
-pub mod ParamLaws
 pub mod GoLaws
+pub mod CountLaws
+pub mod OperatorLaws
+pub mod LeafLaws
 pub mod RunLaws
-pub mod PartSims
-pub mod ChoiceLaws
-pub mod MarkLaws
 pub mod EndLaws
-pub mod EndSims
+pub mod LoopLaws

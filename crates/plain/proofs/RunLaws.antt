@@ -1,51 +1,57 @@
--- The parts of variable length that visit nothing: as the step lists have them, and one turn of each loop. Assumes nothing.
+-- Parts of variable length that visit nothing: as the step lists have them, and which labels they take. Assumes nothing.
 use mathlib.Core.Path.{_≡_, refl, sym, ap, ap₂, _∙_}
-use mathlib.Core.Bool.{Bool}
+use mathlib.Core.Bool.{Bool, true, false, cond}
 use mathlib.Core.List.{List, [], _∷_, _++_, append-assoc, append-nil}
 use Prim.Native.Nat.{ℕ, zero, suc, _+_, _<_}
 use native.Mathlib.Omega.{arith}
+use lib.Dec.{eqb}
 use lib.ListN.{getD, length, length-append}
 use lib.Seq.{getD-append-seam}
 use Rattle.tables.specs.Record.{words}
-use Rattle.tables.specs.Forest.{none, tree, first, next, children}
-use Rattle.pool.specs.Names.{Semantic}
+use Rattle.tables.specs.Forest.{first, next}
 use Rattle.rules.specs.declared.Flow.the-variants.{Go}
-use Rattle.rules.specs.Marker.{RegisterHandler, Code, To, Do, Mark, mark}
-use Rattle.rules.specs.Step.{Use, Get, Set, Path, Step, takes, says}
-use Rattle.rules.specs.Arms.{registers, items-stored}
-use Rattle.rules.specs.Run.{State, labels, flow, emit, bump, Spot, number-of, spot-at, look, sought, exec}
-use Rattle.emit.specs.Does.{nth, child, reach, spot, part}
-use Rattle.emit.proofs.VisitLaws.{spot-below}
+use Rattle.rules.specs.Marker.{RegisterHandler, Pop, Code, To, Do, Mark, mark}
+use Rattle.rules.specs.Step.{Get, Set, Step, push-op, access, get-labels, push-ops}
+use Rattle.rules.specs.Arms.{registers, items-stored, for-targets}
+use Rattle.rules.specs.Run.{State, labels, flow, emit, bump, exec}
+use Rattle.emit.specs.Rep.{Walk, Lent}
+use Rattle.emit.specs.Does.{nth, child, access-noted, doing}
+use Rattle.emit.proofs.RepLaws.{bumps}
 use Rattle.emit.proofs.PartLaws.{nth-next}
-use Rattle.plain.specs.Parts.{repeated, bumps, taken, use-at, register, registering, registered, item-put, items-put}
+use Rattle.plain.specs.Runs.{repeated, use-at, register, registering, registered, item-put, items-put, targets-put}
 use Rattle.plain.proofs.GoLaws.{emit-flow, emit-labels, bump-flow, bump-labels, sought-labels, sought-flow, env-new}
+use Rattle.plain.proofs.LeafLaws.{use-below}
 
--- ---- loops that count up
+-- ---- the same step several times, from the other end
 
 pub repeated-last : (x : Mark) (n : ℕ) (A : State) → repeated x (suc n) A ≡ emit x (repeated x n A)
 repeated-last x zero A = refl
 repeated-last x (suc n) A = repeated-last x n (emit x A)
 
-pub bumps-last : (n : ℕ) (A : State) → bumps (suc n) A ≡ bump (bumps n A)
-bumps-last zero A = refl
-bumps-last (suc n) A = bumps-last n (bump A)
+bumps-first : (n : ℕ) (A : State) → bumps n (bump A) ≡ bumps (suc n) A
+bumps-first zero A = refl
+bumps-first (suc n) A = ap bump (bumps-first n A)
 
--- ---- which labels
+-- ---- labels taken one behind the other
+
+abbrev pub taken : ℕ → State → List ℕ
+taken zero A = []
+taken (suc n) A = labels A ∷ taken n (bump A)
 
 pub taken-length : (n : ℕ) (A : State) → length (taken n A) ≡ n
 taken-length zero A = refl
 taken-length (suc n) A = ap suc (taken-length n (bump A))
 
+pub bumps-flow : (n : ℕ) (A : State) → flow (bumps n A) ≡ flow A
+bumps-flow zero A = refl
+bumps-flow (suc n) A = bump-flow (bumps n A) ∙ bumps-flow n A
+
 pub bumps-labels : (n : ℕ) (A : State) → flow A ≡ Go → labels (bumps n A) ≡ labels A + n
 bumps-labels zero A g = omega arith
 bumps-labels (suc n) A g =
-    let h : labels (bumps n (bump A)) ≡ labels (bump A) + n = bumps-labels n (bump A) (bump-flow A ∙ g) in
-    let z : labels (bump A) ≡ suc (labels A) = bump-labels A g in
+    let h : labels (bumps n A) ≡ labels A + n = bumps-labels n A g in
+    let z : labels (bump (bumps n A)) ≡ suc (labels (bumps n A)) = bump-labels (bumps n A) (bumps-flow n A ∙ g) in
     omega arith
-
-pub bumps-flow : (n : ℕ) (A : State) → flow (bumps n A) ≡ flow A
-bumps-flow zero A = refl
-bumps-flow (suc n) A = bumps-flow n (bump A) ∙ bump-flow A
 
 taken-nth : (n k : ℕ) (A : State) → flow A ≡ Go → k < n → getD (taken n A) k 0 ≡ labels A + k
 taken-nth zero k A g h = absurd (omega arith)
@@ -60,95 +66,97 @@ taken-at env n k A g h = env-new env (taken n A) k ∙ taken-nth n k A g h
 
 -- ---- the parts
 
-module _ (recs : List ℕ) (nest : Bool) (t : Semantic) (f r : ℕ) where
-  abbrev does-from : List Step → List ℕ → State → State
-  does-from = part recs nest t f r
+module _ (e : Lent) (c : Walk) (r : ℕ) where
+  abbrev R : List ℕ
+  R = e .records
 
-  pub says-part : (n : ℕ) (c : Code) (x : ℕ) (is : List Step) (env : List ℕ) (A : State)
-      → does-from (says n c x is) env A ≡ does-from is env (repeated (mark r (Do c x)) n A)
-  unfolding part exec
-  says-part zero c x is env A = refl
-  says-part (suc n) c x is env A = says-part n c x is env (emit (mark r (Do c x)) A)
+  pub says-part : (n : ℕ) (d : Code) (x : ℕ) (is : List Step) (env : List ℕ) (A : State)
+      → doing e c r (push-ops n d x is) env A ≡ doing e c r is env (repeated (mark r (Do d x)) n A)
+  unfolding doing exec
+  says-part zero d x is env A = refl
+  says-part (suc n) d x is env A = says-part n d x is env (emit (mark r (Do d x)) A)
 
-  pub takes-part : (n : ℕ) (is : List Step) (env : List ℕ) (A : State) → does-from (takes n is) env A ≡ does-from is (env ++ taken n A) (bumps n A)
-  unfolding part exec
-  takes-part zero is env A = ap (λ (e : List ℕ). part recs nest t f r is e A) (sym (append-nil env))
+  pub takes-part : (n : ℕ) (is : List Step) (env : List ℕ) (A : State) → doing e c r (get-labels n is) env A ≡ doing e c r is (env ++ taken n A) (bumps n A)
+  unfolding doing exec
+  takes-part zero is env A = ap (λ (x : List ℕ). doing e c r is x A) (sym (append-nil env))
   takes-part (suc n) is env A =
       takes-part n is (env ++ (labels A ∷ [])) (bump A)
-      ∙ ap (λ (e : List ℕ). part recs nest t f r is e (bumps n (bump A))) (append-assoc env (labels A ∷ []) (taken n (bump A)))
+      ∙ ap₂ (λ (x : List ℕ) (B : State). doing e c r is x B) (append-assoc env (labels A ∷ []) (taken n (bump A))) (bumps-first n A)
 
-  abbrev under : Path → Spot
-  under js = spot-at (tree r (words recs r) (children recs r) none) js
+  pub items-part : (i n l : ℕ) (is : List Step) (env : List ℕ) (A : State) → l ≡ nth R i (first R r)
+      → doing e c r (items-stored i n is) env A ≡ doing e c r is env (items-put e r i n l A)
+  unfolding doing exec item-put
+  items-part i zero l is env A q = refl
+  items-part i (suc n) l is env A q =
+      ap (λ (B : State). doing e c r (items-stored (suc i) n is) env B) (use-below e (words R (c .function)) (words R r) r Set l i [] q _)
+      ∙ items-part (suc i) n (next R l) is env (item-put e r i l A) (ap (next R) q ∙ nth-next R i (first R r))
 
-  -- a name below child j
-  seek-at : (u : Use) (c j : ℕ) (js : Path) → c ≡ nth recs j (first recs r) → (A : State)
-      → sought r u (number-of (under (j ∷ js))) (look t (words recs f) u (under (j ∷ js))) A ≡ use-at recs t f r u (reach recs c js) A
-  seek-at u c j js e A =
-      ap (λ (p : Spot). sought r u (number-of p) (look t (words recs f) u p) A)
-      (spot-below recs r (words recs r) j js ∙ ap (λ (x : ℕ). spot recs (reach recs x js)) (sym e))
+  -- a For's targets, and what follows them
+  pub for-targets-part : (n l : ℕ) (is : List Step) (env : List ℕ) (A : State) → l ≡ first R r
+      → doing e c r (for-targets n is) env A ≡ doing e c r is env (targets-put e r n l A)
+  unfolding doing exec
+  for-targets-part n l is env A q = by (eqb n 1)
+    where
+      by : (b : Bool) → doing e c r (cond b (access Set (0 ∷ []) ∷ is) (items-stored 0 n (push-op Pop 0 ∷ is))) env A
+          ≡ doing e c r is env (cond b (use-at e r Set l A) (emit (mark r (Do Pop 0)) (items-put e r 0 n l A)))
+      by true = ap (λ (B : State). doing e c r is env B) (use-below e (words R (c .function)) (words R r) r Set l 0 [] q A)
+      by false = items-part 0 n l (push-op Pop 0 ∷ is) env A q
 
-  pub items-part : (i n c : ℕ) (is : List Step) (env : List ℕ) (A : State) → c ≡ nth recs i (first recs r)
-      → does-from (items-stored i n is) env A ≡ does-from is env (items-put recs t f r i n c A)
-  unfolding part exec item-put
-  items-part i zero c is env A e = refl
-  items-part i (suc n) c is env A e =
-      ap (λ (B : State). part recs nest t f r (items-stored (suc i) n is) env B) (seek-at Set c i [] e _)
-      ∙ items-part (suc i) n (next recs c) is env (item-put recs t f r i c A) (ap (next recs) e ∙ nth-next recs i (first recs r))
+  pub registers-part : (i j n h : ℕ) (is : List Step) (env : List ℕ) (A : State) → i ≡ length env → h ≡ nth R j (first R r)
+      → doing e c r (registers i j n is) env A ≡ doing e c r is (env ++ registered e r n h A) (registering e r n h A)
+  unfolding doing exec register
+  registers-part i j zero h is env A q z = ap (λ (x : List ℕ). doing e c r is x A) (sym (append-nil env))
+  registers-part i j (suc n) h is env A q z =
+      ap₂ (λ (B : State) (l : ℕ). doing e c r (registers (suc i) (suc j) n is) (env ++ (labels A ∷ [])) (emit (mark r (To RegisterHandler l)) B))
+      (use-below e (words R (c .function)) (words R r) r Get h j (0 ∷ []) z (bump A))
+      (ap (λ (x : ℕ). getD (env ++ (labels A ∷ [])) x 0) q ∙ getD-append-seam env (labels A) [] 0)
+      ∙ registers-part (suc i) (suc j) n (next R h) is (env ++ (labels A ∷ [])) (register e r h A) (omega (arith, length-append env (labels A ∷ [])))
+      (ap (next R) z ∙ nth-next R j (first R r))
+      ∙ ap (λ (x : List ℕ). doing e c r is x (registering e r n (next R h) (register e r h A)))
+      (append-assoc env (labels A ∷ []) (registered e r n (next R h) (register e r h A)))
 
-  pub registers-part : (i j n c : ℕ) (is : List Step) (env : List ℕ) (A : State) → i ≡ length env → c ≡ nth recs j (first recs r)
-      → does-from (registers i j n is) env A ≡ does-from is (env ++ registered recs t f r n c A) (registering recs t f r n c A)
-  unfolding part exec register
-  registers-part i j zero c is env A q e = ap (λ (x : List ℕ). part recs nest t f r is x A) (sym (append-nil env))
-  registers-part i j (suc n) c is env A q e =
-      ap₂ (λ (B : State) (l : ℕ). part recs nest t f r (registers (suc i) (suc j) n is) (env ++ (labels A ∷ [])) (emit (mark r (To RegisterHandler l)) B))
-      (seek-at Get c j (0 ∷ []) e (bump A)) (ap (λ (x : ℕ). getD (env ++ (labels A ∷ [])) x 0) q ∙ getD-append-seam env (labels A) [] 0)
-      ∙ registers-part (suc i) (suc j) n (next recs c) is (env ++ (labels A ∷ [])) (register recs t f r c A) (omega (arith, length-append env (labels A ∷ [])))
-      (ap (next recs) e ∙ nth-next recs j (first recs r))
-      ∙ ap (λ (x : List ℕ). part recs nest t f r is x (registering recs t f r n (next recs c) (register recs t f r c A)))
-      (append-assoc env (labels A ∷ []) (registered recs t f r n (next recs c) (register recs t f r c A)))
+-- ---- the labels of Handlers: where the run goes on, one after the other
 
-  -- ---- the labels of Handlers: where the run goes on, one after the other
-
-  register-flow : (c : ℕ) (A : State) → flow (register recs t f r c A) ≡ Go → flow A ≡ Go
+module _ (e : Lent) (r : ℕ) where
+  register-flow : (h : ℕ) (A : State) → flow (register e r h A) ≡ Go → flow A ≡ Go
   unfolding register
-  register-flow c A g =
-      let p = spot recs (child recs c 0) in
-      let B = use-at recs t f r Get (child recs c 0) (bump A) in
-      sym (bump-flow A)
-      ∙ sought-flow r Get (number-of p) (look t (words recs f) Get p) (bump A) (sym (emit-flow (mark r (To RegisterHandler (labels A))) B) ∙ g)
+  register-flow h A g =
+      let i = child (e .records) h 0 in
+      let B = use-at e r Get i (bump A) in
+      sym (bump-flow A) ∙ sought-flow r Get i (access-noted (e .notes) Get i) (bump A) (sym (emit-flow (mark r (To RegisterHandler (labels A))) B) ∙ g)
 
-  register-labels : (c : ℕ) (A : State) → flow A ≡ Go → labels (register recs t f r c A) ≡ suc (labels A)
+  register-labels : (h : ℕ) (A : State) → flow A ≡ Go → labels (register e r h A) ≡ suc (labels A)
   unfolding register
-  register-labels c A g =
-      let p = spot recs (child recs c 0) in
-      let B = use-at recs t f r Get (child recs c 0) (bump A) in
-      emit-labels (mark r (To RegisterHandler (labels A))) B ∙ sought-labels r Get (number-of p) (look t (words recs f) Get p) (bump A) ∙ bump-labels A g
+  register-labels h A g =
+      let i = child (e .records) h 0 in
+      let B = use-at e r Get i (bump A) in
+      emit-labels (mark r (To RegisterHandler (labels A))) B ∙ sought-labels r Get i (access-noted (e .notes) Get i) (bump A) ∙ bump-labels A g
 
-  pub registering-flow : (n c : ℕ) (A : State) → flow (registering recs t f r n c A) ≡ Go → flow A ≡ Go
-  registering-flow zero c A g = g
-  registering-flow (suc n) c A g = register-flow c A (registering-flow n (next recs c) (register recs t f r c A) g)
+  pub registering-flow : (n h : ℕ) (A : State) → flow (registering e r n h A) ≡ Go → flow A ≡ Go
+  registering-flow zero h A g = g
+  registering-flow (suc n) h A g = register-flow h A (registering-flow n (next (e .records) h) (register e r h A) g)
 
-  pub registering-labels : (n c : ℕ) (A : State) → flow (registering recs t f r n c A) ≡ Go → labels (registering recs t f r n c A) ≡ labels A + n
-  registering-labels zero c A g = omega arith
-  registering-labels (suc n) c A g =
-      let B = register recs t f r c A in
-      let y = registering-labels n (next recs c) B g in
-      let z : labels B ≡ suc (labels A) = register-labels c A (registering-flow (suc n) c A g) in
+  pub registering-labels : (n h : ℕ) (A : State) → flow (registering e r n h A) ≡ Go → labels (registering e r n h A) ≡ labels A + n
+  registering-labels zero h A g = omega arith
+  registering-labels (suc n) h A g =
+      let B = register e r h A in
+      let y = registering-labels n (next (e .records) h) B g in
+      let z : labels B ≡ suc (labels A) = register-labels h A (registering-flow (suc n) h A g) in
       y ∙ (let u : labels B + n ≡ labels A + suc n = omega arith in u)
 
-  pub registered-length : (n c : ℕ) (A : State) → length (registered recs t f r n c A) ≡ n
-  registered-length zero c A = refl
-  registered-length (suc n) c A = ap suc (registered-length n (next recs c) (register recs t f r c A))
+  pub registered-length : (n h : ℕ) (A : State) → length (registered e r n h A) ≡ n
+  registered-length zero h A = refl
+  registered-length (suc n) h A = ap suc (registered-length n (next (e .records) h) (register e r h A))
 
-  registered-nth : (n c k : ℕ) (A : State) → flow (registering recs t f r n c A) ≡ Go → k < n → getD (registered recs t f r n c A) k 0 ≡ labels A + k
-  registered-nth zero c k A g h = absurd (omega arith)
-  registered-nth (suc n) c zero A g h = omega arith
-  registered-nth (suc n) c (suc k) A g h =
-      let B = register recs t f r c A in
-      let y = registered-nth n (next recs c) k B g (omega arith) in
-      let z : labels B ≡ suc (labels A) = register-labels c A (registering-flow (suc n) c A g) in
+  registered-nth : (n h k : ℕ) (A : State) → flow (registering e r n h A) ≡ Go → k < n → getD (registered e r n h A) k 0 ≡ labels A + k
+  registered-nth zero h k A g lt = absurd (omega arith)
+  registered-nth (suc n) h zero A g lt = omega arith
+  registered-nth (suc n) h (suc k) A g lt =
+      let B = register e r h A in
+      let y = registered-nth n (next (e .records) h) k B g (omega arith) in
+      let z : labels B ≡ suc (labels A) = register-labels h A (registering-flow (suc n) h A g) in
       y ∙ (let u : labels B + k ≡ labels A + suc k = omega arith in u)
 
-  pub registered-at : (env : List ℕ) (n c k : ℕ) (A : State) → flow (registering recs t f r n c A) ≡ Go → k < n
-      → getD (env ++ registered recs t f r n c A) (length env + k) 0 ≡ labels A + k
-  registered-at env n c k A g h = env-new env (registered recs t f r n c A) k ∙ registered-nth n c k A g h
+  pub registered-at : (env : List ℕ) (n h k : ℕ) (A : State) → flow (registering e r n h A) ≡ Go → k < n
+      → getD (env ++ registered e r n h A) (length env + k) 0 ≡ labels A + k
+  registered-at env n h k A g lt = env-new env (registered e r n h A) k ∙ registered-nth n h k A g lt

@@ -1,26 +1,29 @@
--- The forms of the contracts of leaves that are lent fewer tables than a visitor is. Definitions only.
-use mathlib.Core.Bool.{Bool}
+-- The forms of leaves' contracts. A label is a word for whatever number it stands for. Definitions only.
+use mathlib.Core.Path.{_≡_}
 use mathlib.Core.List.{List}
 use Prim.Native.Nat.{ℕ}
-use Rattle.pool.specs.Names.{Semantic}
+use Rattle.tables.specs.Record.{word}
+use Rattle.tables.specs.Forest.{forest, own-tree}
+use Rattle.pool.specs.Value.{Value}
+use Rattle.rules.specs.Step.{width}
 use Rattle.rules.specs.Run.{State}
-use Rattle.emit.specs.Sim.{Lent, lent, Outs, outs, Sim}
-use Rattle.emit.specs.declared.run.Run.{Run}
+use Rattle.emit.specs.Words.{cap, LABELS, at}
+use Rattle.emit.specs.Rep.{Outs, outs, lent, Moves}
+use Rattle.plain.specs.Runs.{safe-run, item-run, registering}
 
--- in every function, whatever the tables of names
-pub record Plain (recs : List ℕ) (nest : Bool) (o : Outs) (s : Run) (o′ : Outs) (s′ : Run) (g : ℕ → Semantic → State → State) : Type 0 where
-  pub sim : (f : ℕ) (symbols references entries spans back : List ℕ) → Sim (lent recs symbols references entries spans back) nest o s o′ s′ (g f)
+-- a leaf of whatever record that names two labels
+pub record WithLabels (recs : List ℕ) (o : Outs) (w : List ℕ) (o′ : Outs) (w′ : List ℕ) (l m : ℕ) (f : ℕ → ℕ → ℕ → State → State) : Type 0 where
+  pub moves : (r a b : ℕ) → l ≡ cap a → m ≡ cap b → Moves recs o w o′ w′ (λ c. f r a b)
 
--- a leaf that loads names and brings no constant
-pub record Loading (recs references entries spans : List ℕ) (nest : Bool) (o : List ℕ) (s : Run) (o′ : List ℕ) (s′ : Run) (g
-    : Semantic → State → State) : Type 0 where
-  pub sim : (symbols back cs : List ℕ) → Sim (lent recs symbols references entries spans back) nest (outs o cs) s (outs o′ cs) s′ g
+-- a safe Member's jump
+pub record JumpsSafe (recs o w o′ w′ : List ℕ) (r l : ℕ) : Type 0 where
+  pub moves : (consts : List ℕ) (a : ℕ) → l ≡ cap a → Moves recs (outs o consts) w (outs o′ consts) w′ (λ c. safe-run (word recs r 1) r a)
 
--- a leaf that brings no constant
-pub record Quiet (e : Lent) (nest : Bool) (o : List ℕ) (s : Run) (o′ : List ℕ) (s′ : Run) (g : Semantic → State → State) : Type 0 where
-  pub sim : (cs : List ℕ) → Sim e nest (outs o cs) s (outs o′ cs) s′ g
+-- an item of the value on the stack, at record r, its constant brought by record q
+pub record GetsItem (recs : List ℕ) (o : Outs) (w : List ℕ) (o′ : Outs) (w′ : List ℕ) (v : Value) : Type 0 where
+  pub moves : (r q : ℕ) → Moves recs o w o′ w′ (λ c. item-run r q v)
 
--- a leaf that stores names
-pub record Storing (recs symbols references entries spans : List ℕ) (nest : Bool) (o : Outs) (s : Run) (o′ : Outs) (s′ : Run) (g
-    : Semantic → State → State) : Type 0 where
-  pub sim : (back : List ℕ) → Sim (lent recs symbols references entries spans back) nest o s o′ s′ g
+-- the Handlers from the record h on, registered at record r with labels from l on
+pub record Registers (recs notes o w o′ w′ : List ℕ) (h l : ℕ) : Type 0 where
+  pub label : l ≡ at w LABELS
+  pub moves : (consts : List ℕ) (r : ℕ) → Moves recs (outs o consts) w (outs o′ consts) w′ (λ c. registering (lent recs notes) r (width (own-tree (forest recs h))) h)

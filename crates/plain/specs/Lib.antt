@@ -1,5 +1,3 @@
+pub mod Operators
+pub mod Runs
 pub mod Leaves
-pub mod Parts
-pub mod Choice
-pub mod Ends
-pub mod Tail

@@ -1,7 +1,10 @@
-// The counts, and the arms of visit_expr that visit no expression: leaves of the cycle of visitors.
-pub mod choice;
-pub mod count;
-pub mod ends;
-pub mod parts;
-pub mod plain;
-pub mod tail;
+// What of the arms visits no expression: leaves of the cycle of visitors.
+pub mod assign;
+pub mod children;
+pub mod import;
+pub mod item;
+pub mod leaf;
+pub mod loops;
+pub mod member;
+pub mod operator;
+pub mod siblings;

@@ -65,14 +65,6 @@ same-eq (effect n ps b) (effect n′ ps′ b′) e =
     let y = and-both (same-list ps ps′) (same-bool b b′) (z .1) in
     ap₂ (λ x ys. effect x ys b) (eqb-true n n′ (z .0)) (list-eq ps ps′ (y .0)) ∙ ap (effect n′ ps′) (bool-eq b b′ (y .1))
 
-pub same-sym : (v w : Value) → same v w ≡ same w v
-same-sym v w = go (same v w) (same w v) refl refl
-  where
-    go : (a b : Bool) → same v w ≡ a → same w v ≡ b → a ≡ b
-    go true b p q = sym (same-self v) ∙ ap (λ x. same x v) (same-eq v w p) ∙ q
-    go false true p q = absurd (clash (sym (same-self w) ∙ ap (λ x. same x w) (same-eq w v q) ∙ p))
-    go false false p q = refl
-
 -- ---- the search
 
 pub find-unseen : (cs : List Const) (v : Value) → seen cs v ≡ false → find cs v ≡ length cs
@@ -169,10 +161,6 @@ seen-intern cs c = seen-inside (intern cs c) (c .value) (go (seen cs (c .value))
     go : (b : Bool) → seen cs (c .value) ≡ b → find (intern cs c) (c .value) < length (intern cs c)
     go true e = omega (arith, find-intern cs c, find-seen cs (c .value) e, intern-length cs c .0)
     go false e = omega (arith, find-intern cs c, find-unseen cs (c .value) e, ap length (intern-new cs c e), length-append cs (c ∷ []))
-
--- the index that adding answers lies inside the table after
-pub find-counted : (cs : List Const) (c : Const) → find cs (c .value) < length (intern cs c)
-find-counted cs c = omega (arith, find-intern cs c, find-seen (intern cs c) (c .value) (seen-intern cs c))
 
 -- ---- the answer of adding
 

@@ -9,7 +9,7 @@ use lib.ListN.{length, getD}
 use borrow.Author.Tests.{lt-ltb, eq-eqb, ne-eqb}
 use Rattle.pool.specs.Value.{plain, Const, effect-at, seen, intern, start}
 use Rattle.pool.specs.declared.consts.ConstWords.{ConstWords}
-use Rattle.pool.specs.Consts.{made, words, words-of, const-of, at, entry, entries, table, room, put3, put-const, laid, written, Told as ToldIn, AllTold as AllToldIn}
+use Rattle.pool.specs.Consts.{made, words-of, const-of, at, entry, entries, table, room, put3, put-const, laid, written, Told as ToldIn, AllTold as AllToldIn}
 use Rattle.pool.proofs.TableLaws.{put3-length, put3-other, below-other, put3-entry, words-const}
 
 pub laid-length : (ws : List ℕ) (n : ℕ) (cs : List Const) → length (laid ws n cs) ≡ length ws

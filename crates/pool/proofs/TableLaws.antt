@@ -7,23 +7,16 @@ use native.Mathlib.Omega.{arith}
 use native.Mathlib.Decide.{ℕ-discrete}
 use lib.ListN.{length, getD, set, length-set, length-append}
 use lib.Seq.{getD-set-same, getD-set-other}
-use borrow.Author.Tests.{lt-ltb, ltb-true, eq-eqb, ne-eqb}
-use Rattle.pool.specs.Value.{plain, Const, lit, effect-at, find, seen, intern, start}
+use borrow.Author.Tests.{ltb-true, eq-eqb, ne-eqb}
+use Rattle.pool.specs.Value.{plain, Const, effect-at, find, seen, intern, start}
 use Rattle.pool.specs.declared.consts.Added.the-variants.{At, Full}
 use Rattle.pool.specs.Consts.{made, words, words-of, const-of, at, entry, entries, table, room, put3, most, added, written}
 use Rattle.pool.proofs.ConstsLaws.{intern-old, intern-new, seen-inside, seen-outside, added-old, added-new, added-full}
-
-pub room-enough : (ws : List ℕ) (n : ℕ) → (n + 1) * 3 ≤ length ws → room ws n ≡ true
-room-enough ws n h = lt-ltb (n * 3 + 2) (length ws) (omega arith)
 
 module _ (ws : List ℕ) (n k l h : ℕ) where
   put3-room : room ws n ≡ true → put3 ws n k l h ≡ set (set (set ws (n * 3) k) (n * 3 + 1) l) (n * 3 + 2) h
   unfolding put3
   put3-room r = ap (λ b. cond b (set (set (set ws (n * 3) k) (n * 3 + 1) l) (n * 3 + 2) h) ws) r
-
-  pub put3-full : room ws n ≡ false → put3 ws n k l h ≡ ws
-  unfolding put3
-  put3-full r = ap (λ b. cond b (set (set (set ws (n * 3) k) (n * 3 + 1) l) (n * 3 + 2) h) ws) r
 
   pub put3-length : length (put3 ws n k l h) ≡ length ws
   unfolding put3
@@ -153,16 +146,6 @@ module _ (recs : List ℕ) where
   pub table-start : (ws : List ℕ) → room ws 0 ≡ true → table recs (put3 ws 0 0 0 0) 1 ≡ start
   unfolding entries const-of
   table-start ws r = table-put ws 0 0 0 0 r
-
-  -- the constant of a literal's words is the literal
-  pub lit-const : (d p q : ℕ) → (let w = words-of (made (lit d p q)) in const-of recs (w .kind) (w .low) (w .high)) ≡ made (lit d p q)
-  unfolding const-of
-  lit-const zero p q = refl
-  lit-const (suc zero) p q = refl
-  lit-const (suc (suc zero)) p q = refl
-  lit-const (suc (suc (suc zero))) p q = refl
-  lit-const (suc (suc (suc (suc zero)))) p q = refl
-  lit-const (suc (suc (suc (suc (suc n))))) p q = refl
 
   -- the words of a constant of three words are these words, an Effect's high word being 0
   pub words-const : (k l h : ℕ) → (k ≡ 7 → h ≡ 0) → words-of (const-of recs k l h) ≡ words k l h

@@ -6,27 +6,13 @@ use Prim.Native.Nat.{ℕ, zero, suc}
 use native.Mathlib.Decide.{ℕ-discrete}
 use lib.Dec.{eqb}
 use borrow.Author.Tests.{eq-eqb, ne-eqb}
-use Rattle.pool.specs.Value.{plain, Const, lit, same, effect-at}
+use Rattle.pool.specs.declared.value.ConstValue.the-variants.{Bytes}
+use Rattle.pool.specs.ConstValues.{litOf}
+use Rattle.pool.specs.Value.{plain, Const, same, effect-at}
 use Rattle.pool.specs.declared.consts.ConstWords.{ConstWords}
-use Rattle.pool.specs.Consts.{made, words, words-of, const-of, at, entry}
-
-pub lit-at : (k d p q : ℕ) → d ≡ k → words-of (made (lit k p q)) ≡ words-of (made (lit d p q))
-lit-at k d p q e = ap (λ (z : ℕ). words-of (made (lit z p q))) (sym e)
-
-pub lit-other : (d p q : ℕ) → (d ≡ 0 → ⊥) → (d ≡ 1 → ⊥) → (d ≡ 2 → ⊥) → (d ≡ 3 → ⊥) → (d ≡ 4 → ⊥) → words 5 p 0 ≡ words-of (made (lit d p q))
-lit-other zero p q a b c d e = absurd (a refl)
-lit-other (suc zero) p q a b c d e = absurd (b refl)
-lit-other (suc (suc zero)) p q a b c d e = absurd (c refl)
-lit-other (suc (suc (suc zero))) p q a b c d e = absurd (d refl)
-lit-other (suc (suc (suc (suc zero)))) p q a b c d e = absurd (e refl)
-lit-other (suc (suc (suc (suc (suc n))))) p q a b c d e = refl
+use Rattle.pool.specs.Consts.{made, words, const-of, at, entry}
 
 module _ (recs : List ℕ) where
-  -- what the words that the generator hands over stand for
-  pub effect-const : (r h : ℕ) → const-of recs 7 r h ≡ record { value = effect-at recs r; source = r }
-  unfolding const-of
-  effect-const r h = refl
-
   pub plain-const : (k l h : ℕ) → eqb k 7 ≡ false → const-of recs k l h ≡ made (plain k l h)
   unfolding const-of
   plain-const k l h e = ap (λ b. cond b (record { value = effect-at recs l; source = l }) (made (plain k l h))) e
@@ -70,3 +56,12 @@ module _ (recs : List ℕ) where
   entry-words ws i w x y z e ex ey ez =
       ap (λ (t : ConstWords). const-of recs (t .kind) (t .low) (t .high)) e
       ∙ ap₂ (λ s t. const-of recs s t z) ex ey ∙ ap (const-of recs (at ws i 0) (at ws i 1)) ez
+
+-- any other detail is of Bytes
+pub value-other : (d p q : ℕ) → (d ≡ 0 → ⊥) → (d ≡ 1 → ⊥) → (d ≡ 2 → ⊥) → (d ≡ 3 → ⊥) → (d ≡ 4 → ⊥) → Bytes p ≡ litOf d p q
+value-other zero p q a b c d e = absurd (a refl)
+value-other (suc zero) p q a b c d e = absurd (b refl)
+value-other (suc (suc zero)) p q a b c d e = absurd (c refl)
+value-other (suc (suc (suc zero))) p q a b c d e = absurd (d refl)
+value-other (suc (suc (suc (suc zero)))) p q a b c d e = absurd (e refl)
+value-other (suc (suc (suc (suc (suc n))))) p q a b c d e = refl

@@ -1,5 +1,11 @@
 pub mod Value
 pub mod Consts
 pub mod Names
+pub mod Scope
 pub mod NameWords
+pub mod Lookups
 pub mod NameSteps
+pub mod ConstValues
+pub mod Notes
+pub mod Resolve
+pub mod ResolveSteps

@@ -1,78 +1,66 @@
--- What the steps that write the names promise each other. Definitions only.
+-- What the steps that make the names promise each other. Definitions only.
 use mathlib.Core.Path.{_≡_}
 use mathlib.Core.Bool.{cond}
-use mathlib.Core.List.{List, [], _∷_, _++_}
-use Prim.Native.Nat.{ℕ, suc, _+_, _*_, _≤_}
-use lib.ListN.{length}
-use lib.Seq.{sets}
-use lib.Dec.{ltb}
-use Rattle.pool.specs.Names.{Semantic, share-start, Upvalue, Names, names-upto}
-use Rattle.pool.specs.NameWords.{words-of, over, named, entries-of, all-entries, spans-from, spanOf, function-count}
-use Rattle.pool.specs.declared.lookup.Span.{Span}
+use mathlib.Core.List.{List, [], _∷_}
+use Prim.Native.Nat.{ℕ, zero, suc, _+_, _*_, _≤_, _<_}
+use lib.ListN.{length, getD, set}
+use lib.Dec.{ltb, leb, eqb}
+use Rattle.tables.specs.Semantic.{symbolKind, parentOf}
+use Rattle.pool.specs.Names.{Semantic, function-count, share-start, index-of, upvalue-symbols, Names, no-names, names}
+use Rattle.pool.specs.Scope.{OWNER, LOCALS, GLOBALS, UPVALUES, owner-of, index-in, stamps}
+use Rattle.pool.specs.NameWords.{entries-of, put-span, span-for, spanOf, capturedAs, made, entries-laid}
+use Rattle.pool.specs.declared.spans.Span.{Span}
+use Rattle.pool.specs.declared.names.Class.{Class}
+use Rattle.pool.specs.declared.names.Class.the-variants.{Global as Shared}
 
--- the entries have room in the words o, and a word can number them
-pub record Room (o : List ℕ) (es : List Upvalue) : Type 0 where
-  pub space : length es * 3 ≤ length o
-  pub small : length es ≤ 4294967295
+-- the class of a symbol by the stamped names
+abbrev pub classIn : List ℕ → List ℕ → ℕ → Class
+classIn symbols ws s = cond (eqb (symbolKind symbols s) 1) Shared (capturedAs (index-in ws LOCALS s) (index-in ws UPVALUES s))
 
--- the entries are laid over the front of o, and n counts them
-pub record Laid (o : List ℕ) (es : List Upvalue) (ws : List ℕ) (n : ℕ) : Type 0 where
-  pub words : Room o es → ws ≡ over (words-of es) o
-  pub place : Room o es → n ≡ length es
+-- a function's names from place n on, and its span; a share past row 1's limit has none
+unfoldable pub entriesNamed : (ℕ → Class) → List ℕ → List ℕ → ℕ → List ℕ
+entriesNamed cl ss ws n = cond (leb (length ss) 1024) (entries-laid ws n (entries-of (made cl ss))) ws
 
--- one entry more
-pub record Lays (ws : List ℕ) (n : ℕ) (ws′ : List ℕ) (n′ : ℕ) (u : Upvalue) : Type 0 where
-  pub grows : n ≤ n′
-  pub lays : (o : List ℕ) (es : List Upvalue) → Laid o es ws n → Laid o (es ++ (u ∷ [])) ws′ n′
+unfoldable pub spansNamed : (ℕ → Class) → List ℕ → List ℕ → ℕ → List ℕ
+spansNamed cl ss sp f = cond (leb (length ss) 1024) (put-span sp f (span-for (spanOf sp f .start) (made cl ss))) sp
 
--- the span lies inside the entries
-abbrev pub Inside : List Upvalue → Span → Type 0
-Inside es s = s .start + s .locals + s .globals + s .upvalues ≤ length es
+-- the symbols of n entries from place a on
+unfoldable pub symbolsAt : List ℕ → ℕ → ℕ → List ℕ
+symbolsAt ws a zero = []
+symbolsAt ws a (suc n) = getD ws (a * 3) 0 ∷ symbolsAt ws (suc a) n
 
--- entries more, that follow from the parent's names
-pub record Adds (parent : Span) (ws : List ℕ) (n : ℕ) (ws′ : List ℕ) (n′ : ℕ) (f : Names → List Upvalue) : Type 0 where
-  pub grows : n ≤ n′
-  pub adds : (o : List ℕ) (es : List Upvalue) → Laid o es ws n → Inside es parent → Laid o (es ++ f (named es parent)) ws′ n′
+-- the names of a span stamped, table by table
+abbrev pub stamped-names : List ℕ → List ℕ → Span → ℕ → List ℕ
+stamped-names ws es s o =
+    stamps
+    (stamps
+    (stamps (set ws OWNER o) LOCALS 0 (symbolsAt es (s .start) (s .locals)))
+    GLOBALS 0 (symbolsAt es (s .start + s .locals) (s .globals)))
+    UPVALUES 0 (symbolsAt es (s .start + s .locals + s .globals) (s .upvalues))
 
--- the four words of function f in the spans
-unfoldable pub put-span : List ℕ → ℕ → List ℕ → List ℕ
-put-span ws f vs = cond (ltb (f * 4 + 3) (length ws)) (sets ws (f * 4) vs) ws
+-- the words vs stand in ws from i on
+abbrev pub Stands : List ℕ → ℕ → List ℕ → Type 0
+Stands ws i vs = (k : ℕ) → k < length vs → getD ws (i + k) 0 ≡ getD vs k 0
 
-abbrev pub span-words : ℕ → Names → List ℕ
-span-words s n = s ∷ length (n .locals) ∷ length (n .globals) ∷ length (n .upvalues) ∷ []
-
--- a function's names more, and its span
-pub record Enters (parent : Span) (f : ℕ) (ws sp : List ℕ) (n : ℕ) (ws′ sp′ : List ℕ) (n′ : ℕ) (make : Names → Names) : Type 0 where
-  pub adds : Adds parent ws n ws′ n′ (λ up. entries-of (make up))
-  pub spans : (o : List ℕ) (es : List Upvalue) → Laid o es ws n → Inside es parent → Room o (es ++ entries-of (make (named es parent)))
-      → sp′ ≡ put-span sp f (span-words (length es) (make (named es parent)))
-
--- where there is no function: no names
-abbrev pub empty-span : Span
-empty-span = record { start = 0; locals = 0; globals = 0; upvalues = 0 }
-
--- a parent comes before its children, as names-upto has it: any other number names none
-unfoldable pub parentSpan : List ℕ → ℕ → ℕ → Span
-parentSpan ws f p = cond (ltb p f) (spanOf ws p) empty-span
-
--- the lent words have room for all names
-pub record Fits (t : Semantic) (o p : List ℕ) : Type 0 where
-  pub entries : length (t .members) * 3 ≤ length o
-  pub spans : function-count t * 4 ≤ length p
+-- the lent words have room for all names, and slots hold them
+pub record Fits (t : Semantic) (entries spans : ℕ) : Type 0 where
+  pub functions-limit : function-count t ≤ 256
+  pub members-limit : length (t .members) ≤ 1024
+  pub entries-room : length (t .members) * 3 ≤ entries
+  pub spans-room : function-count t * 4 ≤ spans
   pub counted : share-start t (function-count t) ≡ length (t .members)
-  pub small : length (t .members) ≤ 4294967295
+  pub symbols-limit : (m : ℕ) → m < length (t .members) → getD (t .members) m 0 < 1024
 
--- the names of the first f functions are written over o and p
-pub record Layout (t : Semantic) (o p : List ℕ) (f : ℕ) (ws sp : List ℕ) (n : ℕ) : Type 0 where
-  pub words : ws ≡ over (words-of (all-entries (names-upto t f))) o
-  pub spans : sp ≡ over (spans-from 0 (names-upto t f)) p
-  pub place : n ≡ length (all-entries (names-upto t f))
+-- a function's parent as an owner: a parent comes before its children, as names-upto has it, and any other number is none
+abbrev pub parent-owner : List ℕ → ℕ → ℕ
+parent-owner functions f = cond (ltb (parentOf functions f) f) (suc (parentOf functions f)) 0
 
--- one function more
-pub record Turns (t : Semantic) (f : ℕ) (ws sp : List ℕ) (n : ℕ) (ws′ sp′ : List ℕ) (n′ : ℕ) : Type 0 where
-  pub turns : (o p : List ℕ) → Fits t o p → Layout t o p f ws sp n → Layout t o p (suc f) ws′ sp′ n′
+abbrev pub owner-names : Semantic → ℕ → Names
+owner-names t zero = no-names
+owner-names t (suc f) = names t f
 
--- all of them
-pub record Fills (t : Semantic) (o p ws sp : List ℕ) : Type 0 where
-  pub words : Fits t o p → ws ≡ over (words-of (all-entries (names-upto t (function-count t)))) o
-  pub spans : Fits t o p → sp ≡ over (spans-from 0 (names-upto t (function-count t))) p
+-- the stamped names are those of the owner
+pub record Shown (t : Semantic) (ws : List ℕ) : Type 0 where
+  pub locals : (s : ℕ) → index-in ws LOCALS s ≡ index-of (owner-names t (owner-of ws) .locals) s
+  pub globals : (s : ℕ) → index-in ws GLOBALS s ≡ index-of (owner-names t (owner-of ws) .globals) s
+  pub upvalues : (s : ℕ) → index-in ws UPVALUES s ≡ index-of (upvalue-symbols (owner-names t (owner-of ws) .upvalues)) s

@@ -1,9 +1,10 @@
 -- Each function's names and what a load or a store finds. Document 01, 'Down through a function'. Definitions only.
-use mathlib.Core.Bool.{Bool, true, false, cond}
+use mathlib.Core.Bool.{Bool, cond}
 use mathlib.Core.List.{List, [], _∷_, _++_}
-use Prim.Native.Nat.{ℕ, zero, suc, _+_, _*_}
-use lib.ListN.{length, getD, take, drop}
+use Prim.Native.Nat.{ℕ, zero, suc}
+use lib.ListN.{length, getD}
 use lib.Dec.{ltb, eqb}
+use Rattle.tables.specs.Semantic.{pairs, symbolKind, symbolOf, parentOf, memberCount, shareStart, share as shareOf}
 use Rattle.tables.specs.declared.refusal.RunRule.{RunRule}
 use Rattle.tables.specs.declared.refusal.RunRule.the-variants.{Reference, Load, Store}
 
@@ -14,24 +15,29 @@ pub record Semantic : Type 0 where
   pub functions : List ℕ
   pub members : List ℕ
 
+abbrev pub semantic : (symbols references functions members : List ℕ) → Semantic
+semantic symbols references functions members = record { symbols = symbols; references = references; functions = functions; members = members }
+
 -- "3 symbols: kind (0 Local, 1 Global), name string"
 abbrev pub is-global : Semantic → ℕ → Bool
-is-global t s = eqb (getD (t .symbols) (s * 2) 0) 1
+is-global t s = eqb (symbolKind (t .symbols) s) 1
 
 -- "5 functions: parent or none, count"
+abbrev pub function-count : Semantic → ℕ
+function-count t = pairs (t .functions)
+
 abbrev pub parent : Semantic → ℕ → ℕ
-parent t f = getD (t .functions) (f * 2) 0
+parent t f = parentOf (t .functions) f
 
 abbrev pub member-count : Semantic → ℕ → ℕ
-member-count t f = getD (t .functions) (f * 2 + 1) 0
+member-count t f = memberCount (t .functions) f
 
 -- "6 members: symbols, each function's share in turn"
-unfoldable pub share-start : Semantic → ℕ → ℕ
-share-start t zero = 0
-share-start t (suc f) = share-start t f + member-count t f
+abbrev pub share-start : Semantic → ℕ → ℕ
+share-start t f = shareStart (t .functions) f
 
 abbrev pub share : Semantic → ℕ → List ℕ
-share t f = take (member-count t f) (drop (share-start t f) (t .members))
+share t f = shareOf (t .functions) (t .members) f
 
 -- an upvalue: its symbol, and the parent's local (1) or upvalue (2) that it captures, with the index there
 pub record Upvalue : Type 0 where
@@ -124,7 +130,7 @@ store-symbol t n s = cond (is-global t s) (stored-global (index-of (n .globals) 
 
 -- number 10: "reference out of range, where loaded or stored"
 unfoldable pub load : Semantic → ℕ → ℕ → Access
-load t f r = cond (ltb r (length (t .references))) (load-symbol (names t f) (getD (t .references) r 0)) (missing Reference)
+load t f r = cond (ltb r (length (t .references))) (load-symbol (names t f) (symbolOf (t .references) r)) (missing Reference)
 
 unfoldable pub store : Semantic → ℕ → ℕ → Access
-store t f r = cond (ltb r (length (t .references))) (store-symbol t (names t f) (getD (t .references) r 0)) (missing Reference)
+store t f r = cond (ltb r (length (t .references))) (store-symbol t (names t f) (symbolOf (t .references) r)) (missing Reference)

@@ -2,8 +2,8 @@
 use crate::effect::same_effect;
 ghost use mathlib.Core.Path.{_≡_};
 ghost use Prim.Native.Nat.{_+_, _<_, min};
-ghost use Rattle.pool.specs.Value.{lit, same, find};
-ghost use Rattle.pool.specs.Consts.{words, at, const-of, entry, table, room, put3 as put3Of, words-of, made, most, added, written};
+ghost use Rattle.pool.specs.Value.{same, find};
+ghost use Rattle.pool.specs.Consts.{words, at, const-of, entry, table, room, put3 as put3Of, most, added, written};
 
 // A constant's three words.
 pub struct ConstWords {
@@ -21,24 +21,10 @@ pub enum Added {
 
 const MOST: usize = 18446744073709551615;
 
-fn three(kind: u32, low: u32, high: u32) -> ConstWords
+pub fn three(kind: u32, low: u32, high: u32) -> ConstWords
     ensures { λ w. ⌜ w ≡ words kind low high ⌝ }
 {
     ConstWords { kind, low, high }
-}
-
-// The words of a literal; those that its kind does not use are 0.
-pub fn lit_words(detail: u32, p: u32, q: u32) -> ConstWords
-    ensures { λ w. ⌜ w ≡ words-of (made (lit detail p q)) ⌝ }
-{
-    match detail {
-        0 => three(0, 0, 0),
-        1 => three(1, p, 0),
-        2 => three(2, p, q),
-        3 => three(3, p, q),
-        4 => three(4, p, 0),
-        _ => three(5, p, 0),
-    }
 }
 
 // Word j of entry i, 0 where the lent words end before it.
@@ -112,7 +98,7 @@ pub fn find_const(
 }
 
 // The three words of entry n; answers whether there was room for them.
-fn put3(consts: &mut [u32], n: usize, kind: u32, low: u32, high: u32) -> bool
+pub fn put3(consts: &mut [u32], n: usize, kind: u32, low: u32, high: u32) -> bool
     ensures room { λ b. ⌜ b ≡ room (now (consts .entry)) n ⌝ }
     ensures words { λ b. ⌜ now (consts .exit) ≡ put3Of (now (consts .entry)) n kind low high ⌝ }
 {

@@ -2,4 +2,10 @@
 pub mod consts;
 pub mod effect;
 pub mod lookup;
-pub mod names;
+mod names;
+pub mod notes;
+pub mod resolve;
+mod scope;
+pub mod spans;
+pub mod value;
+mod word;

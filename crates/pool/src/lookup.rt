@@ -1,199 +1,157 @@
-// What a load or a store finds in the current function's names. Names are entries of three words: symbol, capture, index.
-ghost use mathlib.Core.Path.{_≡_};
-ghost use mathlib.Core.List.{[]};
-ghost use lib.ListN.{getD};
-ghost use Rattle.pool.specs.Names.{is-global, index-of, load-symbol, store-symbol, else-upvalue, else-global, stored-global, stored-local, upvalue-symbols};
-ghost use Rattle.pool.specs.NameWords.{placed, accessOf, spanOf, tables as tablesOf, symbolsIn, namesIn, loadIn, storeIn};
+// What a load or a store finds in the names that are stamped: the Rust's load and store, each search taken apart by let else.
+use crate::scope::Found;
+use crate::scope::GLOBALS;
+use crate::scope::LOCALS;
+use crate::scope::Scope;
+use crate::scope::UPVALUES;
+use crate::scope::index_of;
+use opcode::index::GlobalNameId;
+use opcode::index::LocalNameId;
+use opcode::index::UpvalueNameId;
 use tables::refusal::RunRule;
+use tables::semantic::symbol_kind;
+use tables::semantic::symbol_of;
+ghost use mathlib.Core.Path.{_≡_};
+ghost use lib.Dec.{eqb};
+ghost use Rattle.tables.specs.Semantic.{symbolKind};
+ghost use Rattle.pool.specs.Scope.{index-in};
+ghost use Rattle.pool.specs.Names.{else-upvalue, else-global, stored-global, stored-local};
+ghost use Rattle.pool.specs.Lookups.{localAt, globalAt, upvalueAt, load-in, store-in, load-found, store-found};
+ghost use Rattle.pool.specs.NameWords.{accessOf};
 
-// Where a function's names stand: its first entry, and how many are locals, then globals, then upvalues.
-pub struct Span {
-    pub start: u32,
-    pub locals: u32,
-    pub globals: u32,
-    pub upvalues: u32,
+pub enum LocalLookup {
+    Found(LocalNameId),
+    Absent,
 }
 
-// What a search answers; the place counts from where the search began.
-pub enum Found {
-    At(u32),
+pub enum GlobalLookup {
+    Found(GlobalNameId),
+    Absent,
+}
+
+pub enum UpvalueLookup {
+    Found(UpvalueNameId),
     Absent,
 }
 
 // What a load or a store comes to.
 pub enum Access {
-    Local(u32),
-    Global(u32),
-    Upvalue(u32),
+    Local(LocalNameId),
+    Global(GlobalNameId),
+    Upvalue(UpvalueNameId),
     Missing(RunRule),
 }
 
-// A word of a table, 0 where it has no such word.
-pub fn word(table: &[u32], i: usize) -> u32
-    ensures { λ x. ⌜ x ≡ getD (now (table .entry)) i 0 ⌝ }
+// local_names().get_index_of(symbol)
+pub fn find_local(scope: &Scope, symbol: u32) -> LocalLookup
+    ensures { λ x. ⌜ localAt x ≡ index-in (now (scope .entry)) 1 symbol ⌝ }
 {
-    if i < table.len() { table[i] } else { 0 }
+    let Found::At(index) = index_of(scope, LOCALS, symbol) else {
+        return LocalLookup::Absent;
+    };
+    LocalLookup::Found(LocalNameId(index))
 }
 
-// The span of function f, empty where there is none.
-pub fn span_of(spans: &[u32], f: usize) -> Span
-    ensures { λ s. ⌜ s ≡ spanOf (now (spans .entry)) f ⌝ }
+// global_names().get_index_of(symbol)
+pub fn find_global(scope: &Scope, symbol: u32) -> GlobalLookup
+    ensures { λ x. ⌜ globalAt x ≡ index-in (now (scope .entry)) 2 symbol ⌝ }
 {
-    if f < spans.len() {
-        let i = f * 4;
-        let start = word(spans, i);
-        let locals = word(spans, i + 1);
-        let globals = word(spans, i + 2);
-        let upvalues = word(spans, i + 3);
-        return Span {
-            start,
-            locals,
-            globals,
-            upvalues,
-        };
-    }
-    Span {
-        start: 0,
-        locals: 0,
-        globals: 0,
-        upvalues: 0,
-    }
+    let Found::At(index) = index_of(scope, GLOBALS, symbol) else {
+        return GlobalLookup::Absent;
+    };
+    GlobalLookup::Found(GlobalNameId(index))
 }
 
-// The first of the entries from start on, count at most, that has the symbol.
-pub fn find_symbol(entries: &[u32], start: usize, count: u32, symbol: u32) -> Found
-    ensures { λ x. ⌜ placed x ≡ index-of (symbolsIn (now (entries .entry)) start count) symbol ⌝ }
+// upvalue_names().get_index_of(symbol)
+pub fn find_upvalue(scope: &Scope, symbol: u32) -> UpvalueLookup
+    ensures { λ x. ⌜ upvalueAt x ≡ index-in (now (scope .entry)) 3 symbol ⌝ }
 {
-    let size = entries.len() / 3;
-    let mut i: u32 = 0;
-    let mut at = start;
-    while i < count {
-        if size <= at {
-            return Found::Absent;
-        }
-        if entries[at * 3] == symbol {
-            return Found::At(i);
-        }
-        i += 1;
-        at += 1;
-    }
-    Found::Absent
+    let Found::At(index) = index_of(scope, UPVALUES, symbol) else {
+        return UpvalueLookup::Absent;
+    };
+    UpvalueLookup::Found(UpvalueNameId(index))
 }
 
-pub fn find_local(entries: &[u32], names: Span, symbol: u32) -> Found
-    ensures { λ x. ⌜ placed x ≡ index-of (namesIn (now (entries .entry)) names .locals) symbol ⌝ }
+fn load_global(scope: &Scope, symbol: u32) -> Access
+    ensures { λ x. ⌜ accessOf x ≡ else-global (index-in (now (scope .entry)) 2 symbol) ⌝ }
 {
-    let start = names.start as usize;
-    let count = names.locals;
-    find_symbol(entries, start, count, symbol)
-}
-
-pub fn find_global(entries: &[u32], names: Span, symbol: u32) -> Found
-    ensures { λ x. ⌜ placed x ≡ index-of (namesIn (now (entries .entry)) names .globals) symbol ⌝ }
-{
-    let start = names.start as usize;
-    let locals = names.locals as usize;
-    let count = names.globals;
-    find_symbol(entries, start + locals, count, symbol)
-}
-
-pub fn find_upvalue(entries: &[u32], names: Span, symbol: u32) -> Found
-    ensures { λ x. ⌜ placed x ≡ index-of (upvalue-symbols (namesIn (now (entries .entry)) names .upvalues)) symbol ⌝ }
-{
-    let start = names.start as usize;
-    let locals = names.locals as usize;
-    let globals = names.globals as usize;
-    let count = names.upvalues;
-    find_symbol(entries, start + locals + globals, count, symbol)
-}
-
-fn load_global(entries: &[u32], names: Span, symbol: u32) -> Access
-    ensures { λ x. ⌜ accessOf x ≡ else-global (index-of (namesIn (now (entries .entry)) names .globals) symbol) ⌝ }
-{
-    let Found::At(i) = find_global(entries, names, symbol) else {
+    let GlobalLookup::Found(id) = find_global(scope, symbol) else {
         return Access::Missing(RunRule::Load);
     };
-    Access::Global(i)
+    Access::Global(id)
 }
 
-fn load_upvalue(entries: &[u32], names: Span, symbol: u32) -> Access
-    ensures { λ x. ⌜ accessOf x ≡ else-upvalue (index-of (upvalue-symbols (namesIn (now (entries .entry)) names .upvalues)) symbol)
-        (index-of (namesIn (now (entries .entry)) names .globals) symbol) ⌝ }
+fn load_upvalue(scope: &Scope, symbol: u32) -> Access
+    ensures { λ x. ⌜ accessOf x ≡ else-upvalue (index-in (now (scope .entry)) 3 symbol) (index-in (now (scope .entry)) 2 symbol) ⌝ }
 {
-    let Found::At(i) = find_upvalue(entries, names, symbol) else {
-        return load_global(entries, names, symbol);
+    let UpvalueLookup::Found(id) = find_upvalue(scope, symbol) else {
+        return load_global(scope, symbol);
     };
-    Access::Upvalue(i)
+    Access::Upvalue(id)
 }
 
-fn load_symbol(entries: &[u32], names: Span, symbol: u32) -> Access
-    ensures { λ x. ⌜ accessOf x ≡ load-symbol (namesIn (now (entries .entry)) names) symbol ⌝ }
+fn load_symbol(scope: &Scope, symbol: u32) -> Access
+    ensures { λ x. ⌜ accessOf x ≡ load-found (now (scope .entry)) symbol ⌝ }
 {
-    let Found::At(i) = find_local(entries, names, symbol) else {
-        return load_upvalue(entries, names, symbol);
+    let LocalLookup::Found(id) = find_local(scope, symbol) else {
+        return load_upvalue(scope, symbol);
     };
-    Access::Local(i)
+    Access::Local(id)
 }
 
-// What a load of a reference finds in a function's names.
-pub fn load(references: &[u32], entries: &[u32], names: Span, reference: u32) -> Access
-    ensures { λ x. ⌜ accessOf x ≡ loadIn (now (references .entry)) (now (entries .entry)) names reference ⌝ }
+// What a load of a reference finds.
+pub fn load(references: &[u32], scope: &Scope, reference: u32) -> Access
+    ensures { λ x. ⌜ accessOf x ≡ load-in (now (references .entry)) (now (scope .entry)) reference ⌝ }
 {
     let r = reference as usize;
     if r < references.len() {
-        return load_symbol(entries, names, references[r]);
+        return load_symbol(scope, symbol_of(references, r));
     }
     Access::Missing(RunRule::Reference)
 }
 
 // The kind of a symbol: 1 is Global.
 pub fn is_global(symbols: &[u32], symbol: u32) -> bool
-    ensures { λ b. ⌜ b ≡ is-global (tablesOf (now (symbols .entry)) [] []) symbol ⌝ }
+    ensures { λ b. ⌜ b ≡ eqb (symbolKind (now (symbols .entry)) symbol) 1 ⌝ }
 {
-    let i = symbol as usize * 2;
-    word(symbols, i) == 1
+    let s = symbol as usize;
+    symbol_kind(symbols, s) == 1
 }
 
-fn store_global(entries: &[u32], names: Span, symbol: u32) -> Access
-    ensures { λ x. ⌜ accessOf x ≡ stored-global (index-of (namesIn (now (entries .entry)) names .globals) symbol) ⌝ }
+fn store_global(scope: &Scope, symbol: u32) -> Access
+    ensures { λ x. ⌜ accessOf x ≡ stored-global (index-in (now (scope .entry)) 2 symbol) ⌝ }
 {
-    let Found::At(at) = find_global(entries, names, symbol) else {
+    let GlobalLookup::Found(id) = find_global(scope, symbol) else {
         return Access::Missing(RunRule::Store);
     };
-    Access::Global(at)
+    Access::Global(id)
 }
 
-fn store_local(entries: &[u32], names: Span, symbol: u32) -> Access
-    ensures { λ x. ⌜ accessOf x ≡ stored-local (index-of (namesIn (now (entries .entry)) names .locals) symbol) ⌝ }
+fn store_local(scope: &Scope, symbol: u32) -> Access
+    ensures { λ x. ⌜ accessOf x ≡ stored-local (index-in (now (scope .entry)) 1 symbol) ⌝ }
 {
-    let Found::At(at) = find_local(entries, names, symbol) else {
+    let LocalLookup::Found(id) = find_local(scope, symbol) else {
         return Access::Missing(RunRule::Store);
     };
-    Access::Local(at)
+    Access::Local(id)
 }
 
-fn store_symbol(symbols: &[u32], entries: &[u32], names: Span, symbol: u32) -> Access
-    ensures { λ x. ⌜ accessOf x ≡ store-symbol (tablesOf (now (symbols .entry)) [] []) (namesIn (now (entries .entry)) names) symbol ⌝ }
+fn store_symbol(symbols: &[u32], scope: &Scope, symbol: u32) -> Access
+    ensures { λ x. ⌜ accessOf x ≡ store-found (now (symbols .entry)) (now (scope .entry)) symbol ⌝ }
 {
     if is_global(symbols, symbol) {
-        return store_global(entries, names, symbol);
+        return store_global(scope, symbol);
     }
-    store_local(entries, names, symbol)
+    store_local(scope, symbol)
 }
 
-// What a store to a reference finds in a function's names: the table of its symbol's kind alone is looked into.
-pub fn store(
-    symbols: &[u32],
-    references: &[u32],
-    entries: &[u32],
-    names: Span,
-    reference: u32,
-) -> Access
-    ensures { λ x. ⌜ accessOf x ≡ storeIn (now (symbols .entry)) (now (references .entry)) (now (entries .entry)) names reference ⌝ }
+// What a store to a reference finds: the table of its symbol's kind alone is looked into.
+pub fn store(symbols: &[u32], references: &[u32], scope: &Scope, reference: u32) -> Access
+    ensures { λ x. ⌜ accessOf x ≡ store-in (now (symbols .entry)) (now (references .entry)) (now (scope .entry)) reference ⌝ }
 {
     let r = reference as usize;
     if r < references.len() {
-        return store_symbol(symbols, entries, names, references[r]);
+        return store_symbol(symbols, scope, symbol_of(references, r));
     }
     Access::Missing(RunRule::Reference)
 }

@@ -1,60 +1,69 @@
-// Each function's names, made from the tables before the run, as the Rust's gen_function_code makes its three maps.
-ghost use mathlib.Core.Path.{_≡_};
-ghost use mathlib.Core.List.{[], _∷_};
-ghost use Prim.Native.Nat.{_/_, _<_};
-ghost use lib.ListN.{length};
-ghost use lib.Dec.{eqb};
-ghost use Rattle.pool.specs.Names.{index-of, upvalue-symbols, share-start};
-ghost use Rattle.pool.specs.NameWords.{tables as tablesOf, namesIn, upvalueOrLocal, capturedAs, classOf, slotOf, entry-for, chosen, made, namedAs, entriesAfter, spansAfter};
-ghost use Rattle.pool.specs.NameSteps.{Lays, Adds, Enters, Turns, Fills, put-span, parentSpan};
-use crate::lookup::Found;
-use crate::lookup::Span;
+// The names of one function, made as the Rust's gen_function_code makes its three maps, while its parent's names are the stamped ones.
+use crate::consts::put3;
+use crate::lookup::LocalLookup;
+use crate::lookup::UpvalueLookup;
 use crate::lookup::find_local;
 use crate::lookup::find_upvalue;
 use crate::lookup::is_global;
-use crate::lookup::span_of;
+use crate::scope::GLOBALS;
+use crate::scope::LOCALS;
+use crate::scope::Scope;
+use crate::scope::UPVALUES;
+use crate::scope::set_owner;
+use crate::scope::stamp;
+use crate::spans::Span;
+use crate::spans::put_span;
+use crate::spans::span_of;
+use opcode::index::LocalNameId;
+use opcode::index::UpvalueNameId;
+use tables::semantic::entry;
+ghost use mathlib.Core.Path.{_≡_};
+ghost use Prim.Native.Nat.{_+_, _<_};
+ghost use lib.ListN.{length};
+ghost use Rattle.pool.specs.Scope.{index-in, stamps};
+ghost use Rattle.pool.specs.NameWords.{upvalueOrLocal, capturedAs, slotOf, entry-for, chosen, entries-laid, spanOf};
+ghost use Rattle.pool.specs.NameSteps.{classIn, symbolsAt, entriesNamed, spansNamed, stamped-names};
 
-// What a symbol of a function is there; a captured one has its index in the parent's table.
+// What a symbol of a function is there; a captured one is in the parent's table.
 pub enum Class {
     Local,
     Global,
-    CapturedLocal(u32),
-    CapturedUpvalue(u32),
+    CapturedLocal(LocalNameId),
+    CapturedUpvalue(UpvalueNameId),
 }
 
-// The table that a symbol goes to (0 locals, 1 globals, 2 upvalues), and its entry's capture and index.
+// The table that a symbol goes to, and its entry's capture and index.
 pub struct Slot {
     pub table: u32,
     pub capture: u32,
     pub index: u32,
 }
 
-fn upvalue_or_local(entries: &[u32], parent: Span, symbol: u32) -> Class
-    ensures { λ x. ⌜ x ≡ upvalueOrLocal (index-of (upvalue-symbols (namesIn (now (entries .entry)) parent .upvalues)) symbol) ⌝ }
+fn upvalue_or_local(scope: &Scope, symbol: u32) -> Class
+    ensures { λ x. ⌜ x ≡ upvalueOrLocal (index-in (now (scope .entry)) 3 symbol) ⌝ }
 {
-    let Found::At(i) = find_upvalue(entries, parent, symbol) else {
+    let UpvalueLookup::Found(id) = find_upvalue(scope, symbol) else {
         return Class::Local;
     };
-    Class::CapturedUpvalue(i)
+    Class::CapturedUpvalue(id)
 }
 
-fn captured(entries: &[u32], parent: Span, symbol: u32) -> Class
-    ensures { λ x. ⌜ x ≡ capturedAs (index-of (namesIn (now (entries .entry)) parent .locals) symbol)
-        (index-of (upvalue-symbols (namesIn (now (entries .entry)) parent .upvalues)) symbol) ⌝ }
+fn captured(scope: &Scope, symbol: u32) -> Class
+    ensures { λ x. ⌜ x ≡ capturedAs (index-in (now (scope .entry)) 1 symbol) (index-in (now (scope .entry)) 3 symbol) ⌝ }
 {
-    let Found::At(i) = find_local(entries, parent, symbol) else {
-        return upvalue_or_local(entries, parent, symbol);
+    let LocalLookup::Found(id) = find_local(scope, symbol) else {
+        return upvalue_or_local(scope, symbol);
     };
-    Class::CapturedLocal(i)
+    Class::CapturedLocal(id)
 }
 
-fn classify(symbols: &[u32], entries: &[u32], parent: Span, symbol: u32) -> Class
-    ensures { λ x. ⌜ x ≡ classOf (tablesOf (now (symbols .entry)) [] []) (namesIn (now (entries .entry)) parent) symbol ⌝ }
+fn classify(symbols: &[u32], scope: &Scope, symbol: u32) -> Class
+    ensures { λ x. ⌜ x ≡ classIn (now (symbols .entry)) (now (scope .entry)) symbol ⌝ }
 {
     if is_global(symbols, symbol) {
         return Class::Global;
     }
-    captured(entries, parent, symbol)
+    captured(scope, symbol)
 }
 
 fn slot_of(class: Class) -> Slot
@@ -62,52 +71,46 @@ fn slot_of(class: Class) -> Slot
 {
     match class {
         Class::Local => Slot {
-            table: 0,
+            table: LOCALS,
             capture: 0,
             index: 0,
         },
         Class::Global => Slot {
-            table: 1,
+            table: GLOBALS,
             capture: 0,
             index: 0,
         },
-        Class::CapturedLocal(i) => Slot {
-            table: 2,
+        Class::CapturedLocal(id) => Slot {
+            table: UPVALUES,
             capture: 1,
-            index: i,
+            index: id.0,
         },
-        Class::CapturedUpvalue(i) => Slot {
-            table: 2,
+        Class::CapturedUpvalue(id) => Slot {
+            table: UPVALUES,
             capture: 2,
-            index: i,
+            index: id.0,
         },
     }
 }
 
-// An entry is written behind the others, if it has room and a word can number it; answers how many there are.
-fn put(entries: &mut [u32], n: u32, symbol: u32, capture: u32, index: u32) -> u32
-    ensures { λ m. ⌜ Lays (now (entries .entry)) n (now (entries .exit)) m (record { symbol = symbol; capture = capture; index = index }) ⌝ }
+// A symbol of the share is written at place n if it is for this table; answers the place behind.
+fn step(
+    symbols: &[u32],
+    scope: &Scope,
+    entries: &mut [u32],
+    table: u32,
+    n: usize,
+    symbol: u32,
+) -> usize
+    requires { ⌜ n < 8589934592 ⌝ }
+    ensures words { λ _. ⌜ now (entries .exit) ≡ entries-laid (now (entries .entry)) n
+        (entry-for table (classIn (now (symbols .entry)) (now (scope .entry)) symbol) symbol) ⌝ }
+    ensures place { λ m. ⌜ m ≡ n + length (entry-for table (classIn (now (symbols .entry)) (now (scope .entry)) symbol) symbol) ⌝ }
 {
-    if n < 4294967295 {
-        let i = n as usize * 3;
-        if i + 2 < entries.len() {
-            entries[i] = symbol;
-            entries[i + 1] = capture;
-            entries[i + 2] = index;
-            return n + 1;
-        }
-    }
-    n
-}
-
-// A symbol of the share is written if it is for this table.
-fn step(symbols: &[u32], entries: &mut [u32], parent: Span, table: u32, n: u32, symbol: u32) -> u32
-    ensures { λ m. ⌜ Adds parent (now (entries .entry)) n (now (entries .exit)) m
-        (λ up. entry-for table (classOf (tablesOf (now (symbols .entry)) [] []) up symbol) symbol) ⌝ }
-{
-    let slot = slot_of(classify(symbols, entries, parent, symbol));
+    let slot = slot_of(classify(symbols, scope, symbol));
     if slot.table == table {
-        return put(entries, n, symbol, slot.capture, slot.index);
+        put3(entries, n, symbol, slot.capture, slot.index);
+        return n + 1;
     }
     n
 }
@@ -116,166 +119,81 @@ fn step(symbols: &[u32], entries: &mut [u32], parent: Span, table: u32, n: u32, 
 fn pass(
     symbols: &[u32],
     share: &[u32],
+    scope: &Scope,
     entries: &mut [u32],
-    parent: Span,
     table: u32,
-    n: u32,
-) -> u32
-    ensures { λ m. ⌜ Adds parent (now (entries .entry)) n (now (entries .exit)) m (λ up. chosen table (now (symbols .entry)) up (now (share .entry))) ⌝ }
+    n: usize,
+) -> usize
+    requires { ⌜ n + length (now share) < 8589934592 ⌝ }
+    ensures words { λ _. ⌜ now (entries .exit) ≡ entries-laid (now (entries .entry)) n
+        (chosen table (classIn (now (symbols .entry)) (now (scope .entry))) (now (share .entry))) ⌝ }
+    ensures place { λ m. ⌜ m ≡ n + length (chosen table (classIn (now (symbols .entry)) (now (scope .entry))) (now (share .entry))) ⌝ }
 {
-    let mut m = n;
-    let mut i = 0;
+    let mut at = n;
+    let mut i: usize = 0;
     while i < share.len() {
-        m = step(symbols, entries, parent, table, m, share[i]);
+        at = step(symbols, scope, entries, table, at, share[i]);
         i += 1;
     }
-    m
+    at
 }
 
-// The span of function f is written, if it has room.
-fn put_span(spans: &mut [u32], f: usize, start: u32, locals: u32, globals: u32, upvalues: u32)
-    ensures { λ _. ⌜ now (spans .exit) ≡ put-span (now (spans .entry)) f (start ∷ locals ∷ globals ∷ upvalues ∷ []) ⌝ }
-{
-    if f < spans.len() {
-        let i = f * 4;
-        if i + 3 < spans.len() {
-            spans[i] = start;
-            spans[i + 1] = locals;
-            spans[i + 2] = globals;
-            spans[i + 3] = upvalues;
-        }
-    }
-}
-
-// The names of function f and its span: locals, globals, upvalues.
-fn enter(
+// The names of function f, from its span's start on, and its span: locals, globals, upvalues.
+pub fn name(
     symbols: &[u32],
     share: &[u32],
-    entries: &mut [u32],
-    spans: &mut [u32],
-    parent: Span,
-    f: usize,
-    n: u32,
-) -> u32
-    ensures { λ m. ⌜ Enters parent f (now (entries .entry)) (now (spans .entry)) n (now (entries .exit)) (now (spans .exit)) m
-        (λ up. made (now (symbols .entry)) up (now (share .entry))) ⌝ }
-{
-    let globals = pass(symbols, share, entries, parent, 0, n);
-    let upvalues = pass(symbols, share, entries, parent, 1, globals);
-    let end = pass(symbols, share, entries, parent, 2, upvalues);
-    put_span(spans, f, n, globals - n, upvalues - globals, end - upvalues);
-    end
-}
-
-// The parent's span; a number that is not below the function's own names no parent.
-fn parent_span(spans: &[u32], f: usize, parent: u32) -> Span
-    ensures { λ s. ⌜ s ≡ parentSpan (now (spans .entry)) f parent ⌝ }
-{
-    let p = parent as usize;
-    if p < f {
-        return span_of(spans, p);
-    }
-    Span {
-        start: 0,
-        locals: 0,
-        globals: 0,
-        upvalues: 0,
-    }
-}
-
-// The names of function f, behind those of the functions before it; answers how many there are then.
-fn turn(
-    symbols: &[u32],
-    functions: &[u32],
-    members: &[u32],
+    scope: &Scope,
     entries: &mut [u32],
     spans: &mut [u32],
     f: usize,
-    n: u32,
-) -> u32
-    requires { ⌜ f < length (now functions) / 2 ⌝ }
-    ensures { λ m. ⌜ Turns (tablesOf (now (symbols .entry)) (now (functions .entry)) (now (members .entry))) f
-        (now (entries .entry)) (now (spans .entry)) n (now (entries .exit)) (now (spans .exit)) m ⌝ }
+)
+    ensures words { λ _. ⌜ now (entries .exit) ≡ entriesNamed (classIn (now (symbols .entry)) (now (scope .entry))) (now (share .entry))
+        (now (entries .entry)) (spanOf (now (spans .entry)) f .start) ⌝ }
+    ensures span { λ _. ⌜ now (spans .exit) ≡ spansNamed (classIn (now (symbols .entry)) (now (scope .entry))) (now (share .entry))
+        (now (spans .entry)) f ⌝ }
 {
-    let i = f * 2;
-    let parent = functions[i];
-    let count = functions[i + 1] as usize;
-    let from = n as usize;
-    let to = from + count;
-    if to <= members.len() {
-        let up = parent_span(spans, f, parent);
-        let share = &members[from..to];
-        return enter(symbols, share, entries, spans, up, f, n);
-    }
-    n
-}
-
-// The names of all functions.
-fn fill(symbols: &[u32], functions: &[u32], members: &[u32], entries: &mut [u32], spans: &mut [u32])
-    ensures { λ _. ⌜ Fills (tablesOf (now (symbols .entry)) (now (functions .entry)) (now (members .entry)))
-        (now (entries .entry)) (now (spans .entry)) (now (entries .exit)) (now (spans .exit)) ⌝ }
-{
-    let size = functions.len() / 2;
-    let mut n: u32 = 0;
-    let mut f: usize = 0;
-    while f < size {
-        n = turn(symbols, functions, members, entries, spans, f, n);
-        f += 1;
+    // row 1's limit
+    if share.len() <= 1024 {
+        let start = span_of(spans, f).start;
+        let n = start as usize;
+        let globals = pass(symbols, share, scope, entries, LOCALS, n);
+        let upvalues = pass(symbols, share, scope, entries, GLOBALS, globals);
+        let end = pass(symbols, share, scope, entries, UPVALUES, upvalues);
+        put_span(
+            spans,
+            f,
+            Span {
+                start,
+                locals: (globals - n) as u32,
+                globals: (upvalues - globals) as u32,
+                upvalues: (end - upvalues) as u32,
+            },
+        );
     }
 }
 
-// Whether the functions' counts sum to the members.
-fn counted(functions: &[u32], members: usize) -> bool
-    ensures { λ b. ⌜ b ≡ eqb (share-start (tablesOf [] (now (functions .entry)) []) (length (now (functions .entry)) / 2)) members ⌝ }
+// The entries from place n on, count of them, are the owner's names in this table; of equal symbols the first counts.
+fn stamp_table(scope: &mut Scope, entries: &[u32], table: u32, n: usize, count: u32)
+    requires { ⌜ n < 17179869184 ⌝ }
+    ensures { λ _. ⌜ now (scope .exit) ≡ stamps (now (scope .entry)) table 0 (symbolsAt (now (entries .entry)) n count) ⌝ }
 {
-    let size = functions.len() / 2;
-    let mut left = members;
-    let mut f: usize = 0;
-    while f < size {
-        let count = functions[f * 2 + 1] as usize;
-        if left < count {
-            return false;
-        }
-        left -= count;
-        f += 1;
+    let mut i = count;
+    while 0 < i {
+        i -= 1;
+        let at = n + i as usize;
+        stamp(scope, table, entry(entries, at * 3), i);
     }
-    left == 0
 }
 
-// What the call answers: the names are made, or the lent words do not suffice and are as they were.
-pub enum Named {
-    Made,
-    Short,
-}
-
-// Three words for each member and four for each function, over the front of the lent words.
-pub fn names(
-    symbols: &[u32],
-    functions: &[u32],
-    members: &[u32],
-    entries: &mut [u32],
-    spans: &mut [u32],
-) -> Named
-    ensures answer { λ x. ⌜ x ≡ namedAs (tablesOf (now (symbols .entry)) (now (functions .entry)) (now (members .entry)))
-        (now (entries .entry)) (now (spans .entry)) ⌝ }
-    ensures words { λ x. ⌜ now (entries .exit) ≡ entriesAfter (tablesOf (now (symbols .entry)) (now (functions .entry)) (now (members .entry)))
-        (now (entries .entry)) (now (spans .entry)) ⌝ }
-    ensures places { λ x. ⌜ now (spans .exit) ≡ spansAfter (tablesOf (now (symbols .entry)) (now (functions .entry)) (now (members .entry)))
-        (now (entries .entry)) (now (spans .entry)) ⌝ }
+// The names of a span become the stamped ones, as those of the owner.
+pub fn stamp_names(scope: &mut Scope, entries: &[u32], span: Span, owner: u32)
+    ensures { λ _. ⌜ now (scope .exit) ≡ stamped-names (now (scope .entry)) (now (entries .entry)) span owner ⌝ }
 {
-    let size = members.len();
-    if entries.len() < size * 3 {
-        return Named::Short;
-    }
-    if spans.len() < functions.len() / 2 * 4 {
-        return Named::Short;
-    }
-    if 4294967295 < size {
-        return Named::Short;
-    }
-    if counted(functions, size) {
-        fill(symbols, functions, members, entries, spans);
-        return Named::Made;
-    }
-    Named::Short
+    let locals = span.start as usize;
+    let globals = locals + span.locals as usize;
+    let upvalues = globals + span.globals as usize;
+    set_owner(scope, owner);
+    stamp_table(scope, entries, LOCALS, locals, span.locals);
+    stamp_table(scope, entries, GLOBALS, globals, span.globals);
+    stamp_table(scope, entries, UPVALUES, upvalues, span.upvalues);
 }

@@ -15,7 +15,8 @@ use Rattle.tables.specs.declared.numbering.Manner.the-variants.{Stored, RightFi
 use Rattle.tables.specs.Numbering.{Visit, Order, stored, rights, lefts, back, in-order, inside, entered, within, manner, is-left, visited, functions}
 use Rattle.tables.proofs.CheckLaws.{Kept}
 use Rattle.pool.specs.Names.{Semantic}
-use Rattle.rules.specs.Run.{side, run}
+use Rattle.rules.specs.declared.StackCode.{StackCode}
+use Rattle.rules.specs.Run.{look, side, run}
 use Rattle.rules.specs.Out.{out}
 use Rattle.rules.specs.Demand.{Demand3}
 use Rattle.rules.proofs.Writes.{Clean}
@@ -62,31 +63,32 @@ visits-count (tree r w k s) e =
     (entered-visits (is-function w) (record { met = r; around = e }) (inside (manner (w .kind)) v) ∙ ap (λ (m : ℕ). cond (is-function w) 1 0 + m) n)
     (visits-count s e))
 
-module _ (strings bytes symbols references funs members recs : List ℕ) where
+module _ (sc : StackCode) (strings bytes symbols references funs members recs : List ℕ) where
   abbrev lent : Semantic
   lent = record { symbols = symbols; references = references; functions = funs; members = members }
 
   pub record LentBounds : Type 0 where
-    pub markers : length (out lent recs (side (run lent recs)) .markers) ≤ 2 * (32 * size recs)
-    pub constants : length (out lent recs (side (run lent recs)) .constants) ≤ 3 * (3 * size recs)
-    pub names : length (out lent recs (side (run lent recs)) .names-out) ≤ 3 * length members
-    pub errors : length (out lent recs (side (run lent recs)) .errors) ≤ 3 * size recs
-    pub lines : length (out lent recs (side (run lent recs)) .lines) ≤ 7 * pairs funs
+    pub markers : length (out lent recs (side (run sc (look lent) recs)) .markers) ≤ 2 * (32 * size recs)
+    pub constants : length (out lent recs (side (run sc (look lent) recs)) .constants) ≤ 3 * (3 * size recs)
+    pub names : length (out lent recs (side (run sc (look lent) recs)) .names-out) ≤ 3 * length members
+    pub errors : length (out lent recs (side (run sc (look lent) recs)) .errors) ≤ 3 * size recs
+    pub lines : length (out lent recs (side (run sc (look lent) recs)) .lines) ≤ 7 * pairs funs
 
   pub lent-bounds : 0 < size recs → Kept strings bytes symbols references funs members recs → LentBounds
   lent-bounds some kept =
-      let b = out-bounds lent recs (table-bounds lent recs some (kept .children-right)) in
+      let b = out-bounds sc lent recs (table-bounds sc (look lent) recs some (kept .children-right)) in
       let n = kept .all-in-tree in
       let m : function-count (root recs) ≡ pairs funs = sym (visits-count (root recs) 0 .0) ∙ sym (kept .functions-all) in
       record {
         markers = omega (arith, b .markers, n);
         constants = omega (arith, b .constants, n);
-        names = names-bound lent recs;
+        names = names-bound sc lent recs;
         errors = omega (arith, b .errors, n);
         lines = omega (arith, b .lines, b .functions, m);
       }
 
   -- demand 3, if the run reports no error
-  pub accepted-demand3 : 0 < size recs → Kept strings bytes symbols references funs members recs → Clean (run lent recs) → Demand3 lent recs (side (run lent recs))
+  pub accepted-demand3 : 0 < size recs → Kept strings bytes symbols references funs members recs → Clean (run sc (look lent) recs) → Demand3 sc lent recs (side (run sc
+      (look lent) recs))
   accepted-demand3 some kept clean =
-      demand3 lent recs (eqb→eq (words recs 0 .kind) 30 (subst T (sym (kept .root-is-function)) tt)) (table-shaped recs (kept .children-right) some) clean
+      demand3 sc lent recs (eqb→eq (words recs 0 .kind) 30 (subst T (sym (kept .root-is-function)) tt)) (table-shaped recs (kept .children-right) some) clean

@@ -8,7 +8,8 @@ use lib.Dec.{eqb}
 use Rattle.tables.specs.Record.{Words, words, is-do}
 use Rattle.tables.specs.Forest.{Forest, none, tree, children, first, fold, own-tree}
 use Rattle.tables.proofs.ForestLaws.{Each, each, each-at, Genuine, genuine}
-use Rattle.pool.specs.Names.{Semantic, Access, local, global, upvalue, missing}
+use Rattle.pool.specs.Names.{Access, local, global, upvalue, missing}
+use Rattle.rules.specs.declared.StackCode.{StackCode}
 use Rattle.rules.specs.Marker.{Way, Code, Pop, LoadLocals, Return, Op, Label, To, Back, Load, Do, Mark, mark}
 use Rattle.rules.specs.Step.{
   Role,
@@ -18,25 +19,26 @@ use Rattle.rules.specs.Step.{
   keep,
   Use,
   Step,
-  say,
-  put,
-  take,
+  push-op,
+  push-const,
+  get-label,
   place,
   jump,
-  back,
+  jump-back,
   visit,
-  enter,
-  leave,
+  begin-loop,
+  end-loop,
   exit,
-  bar,
-  seek,
-  stop,
+  check-return,
+  access,
+  refuse,
   inner,
   expr,
 }
 use Rattle.rules.specs.Arms.{stream-steps}
 use Rattle.rules.specs.Kinds.{steps}
 use Rattle.rules.specs.Run.{
+  Lookup,
   Loop,
   loop,
   Stream,
@@ -82,7 +84,6 @@ use Rattle.rules.specs.Run.{
   alone,
   spot-at,
   number-of,
-  look,
 }
 use Rattle.rules.specs.declared.Flow.{Flow}
 use Rattle.rules.specs.declared.Flow.the-variants.{Go, Cut, Refused}
@@ -200,83 +201,85 @@ nested-like r w v v′ s t (like m l ls os (Cut k a b) e e′) n = like _ _ _ _ 
 nested-like r w v v′ s t (like m l ls os (Refused x q) e e′) n = absurd n
 
 -- the two modes: with and without the functions inside
-abbrev pub nesting : (List Loop → List Loop) → Mode
-nesting trim = record { nest = true; trim = trim }
+abbrev pub nesting : StackCode → (List Loop → List Loop) → Mode
+nesting sc trim = record { code = sc; nest = true; trim = trim }
 
-abbrev pub flat : (List Loop → List Loop) → Mode
-flat trim = record { nest = false; trim = trim }
+abbrev pub flat : StackCode → (List Loop → List Loop) → Mode
+flat sc trim = record { code = sc; nest = false; trim = trim }
 
-module _ (t : Semantic) (trim : List Loop → List Loop) where
+module _ (sc : StackCode) (t : Lookup) (trim : List Loop → List Loop) where
   module _ (fn : Words) (r : ℕ) (w : Words) (k : Forest) (vs vs′ : Role → ℕ → State → State) (body body′ : State → State)
       (sticky : (a : Role) (j : ℕ) → Sticky (vs a j)) (agree : (a : Role) (j : ℕ) → Agree (vs a j) (vs′ a j)) where
-    act-like : (x : Step) (env : List ℕ) → Agree (act t (nesting trim) fn r w k vs body x env) (act t (flat trim) fn r w k vs′ body′ x env)
-    act-like (say c x) env = emit-like _
-    act-like (put c p v) env = emit-like _
-    act-like take env = bump-like
+    act-like : (x : Step) (env : List ℕ) → Agree (act t (nesting sc trim) fn r w k vs body x env) (act t (flat sc trim) fn r w k vs′ body′ x env)
+    act-like (push-op c x) env = emit-like _
+    act-like (push-const c p v) env = emit-like _
+    act-like get-label env = bump-like
     act-like (place i) env = emit-like _
     act-like (jump h i) env = emit-like _
-    act-like (back i) env = emit-like _
+    act-like (jump-back i) env = emit-like _
     act-like (visit pass a j) env = agree a j
     act-like (visit keep a j) env = kept-like (vs a j) (vs′ a j) (agree a j)
-    act-like (enter i j) env = begin-like trim _
-    act-like leave env = finish-like
+    act-like (begin-loop i j) env = begin-like trim _
+    act-like end-loop env = finish-like
     act-like (exit x) env = outward-like r w x
-    act-like bar env = barred-like w (is-do fn)
-    act-like (seek u p) env = sought-like r u _ (look t fn u (spot-at (tree r w k none) p))
-    act-like (stop x) env = halt-like _
+    act-like check-return env = barred-like w (is-do fn)
+    act-like (access u p) env = sought-like r u _ (t fn u (spot-at (tree r w k none) p))
+    act-like (refuse x) env = halt-like _
     act-like inner env = nested-like r w body body′
 
     same-labels : (s s′ : State) → Like s s′ → labels s ≡ labels s′
     same-labels s s′ (like m l ls os f e e′) = refl
 
-    same-named : (x : Step) (env : List ℕ) (l : ℕ) → named t (nesting trim) fn r w k vs body x env l ≡ named t (flat trim) fn r w k vs′ body′ x env l
-    same-named (say c x) env l = refl
-    same-named (put c p v) env l = refl
-    same-named take env l = refl
+    same-named : (x : Step) (env : List ℕ) (l : ℕ) → named t (nesting sc trim) fn r w k vs body x env l ≡ named t (flat sc trim) fn r w k vs′ body′ x env l
+    same-named (push-op c x) env l = refl
+    same-named (push-const c p v) env l = refl
+    same-named get-label env l = refl
     same-named (place i) env l = refl
     same-named (jump h i) env l = refl
-    same-named (back i) env l = refl
+    same-named (jump-back i) env l = refl
     same-named (visit y a j) env l = refl
-    same-named (enter i j) env l = refl
-    same-named leave env l = refl
+    same-named (begin-loop i j) env l = refl
+    same-named end-loop env l = refl
     same-named (exit x) env l = refl
-    same-named bar env l = refl
-    same-named (seek u p) env l = refl
-    same-named (stop x) env l = refl
+    same-named check-return env l = refl
+    same-named (access u p) env l = refl
+    same-named (refuse x) env l = refl
     same-named inner env l = refl
 
-    exec-like : (is : List Step) (env : List ℕ) → Agree (exec t (nesting trim) fn r w k vs body is env) (exec t (flat trim) fn r w k vs′ body′ is env)
+    exec-like : (is : List Step) (env : List ℕ) → Agree (exec t (nesting sc trim) fn r w k vs body is env) (exec t (flat sc trim) fn r w k vs′ body′ is env)
     unfolding exec
     exec-like [] env s s′ h n = h
     exec-like (x ∷ is) env s s′ h n =
-        let env′ = named t (nesting trim) fn r w k vs body x env (labels s) in
-        let a = act t (nesting trim) fn r w k vs body x env s in
-        let g = act-like x env s s′ h (sticky-runs (exec t (nesting trim) fn r w k vs body is env′) (exec-sticky t (nesting trim) fn r w k vs body sticky is env′) a n) in
-        subst (λ (z : List ℕ). Like (exec t (nesting trim) fn r w k vs body is env′ a) (exec t (flat trim) fn r w k vs′ body′ is z (act t (flat trim) fn r w k vs′ body′ x env s′)))
-        (same-named x env (labels s) ∙ ap (λ (l : ℕ). named t (flat trim) fn r w k vs′ body′ x env l) (same-labels s s′ h))
-        (exec-like is env′ a (act t (flat trim) fn r w k vs′ body′ x env s′) g n)
+        let env′ = named t (nesting sc trim) fn r w k vs body x env (labels s) in
+        let a = act t (nesting sc trim) fn r w k vs body x env s in
+        let g = act-like x env s s′ h (sticky-runs (exec t (nesting sc trim) fn r w k vs body is env′) (exec-sticky t (nesting sc trim) fn r w k vs body sticky is env′) a n) in
+        subst (λ (z : List ℕ). Like (exec t (nesting sc trim) fn r w k vs body is env′ a) (exec t (flat sc trim) fn r w k vs′ body′ is z (act t (flat sc trim) fn r w k
+        vs′ body′ x env s′)))
+        (same-named x env (labels s) ∙ ap (λ (l : ℕ). named t (flat sc trim) fn r w k vs′ body′ x env l) (same-labels s s′ h))
+        (exec-like is env′ a (act t (flat sc trim) fn r w k vs′ body′ x env s′) g n)
 
   abbrev Agree-all : Visit → Visit → Type 0
   Agree-all v v′ = (a : Role) (fn : Words) → Agree (v a fn) (v′ a fn)
 
   abbrev Alike : ℕ → Words → Forest → Type 0
-  Alike r w k = Agree-all (visit-alg t (nesting trim) r w k (visits-of t (nesting trim) k)) (visit-alg t (flat trim) r w k (visits-of t (flat trim) k))
+  Alike r w k = Agree-all (visit-alg t (nesting sc trim) r w k (visits-of t (nesting sc trim) k)) (visit-alg t (flat sc trim) r w k (visits-of t (flat sc trim) k))
 
   children-alike : (k : Forest) → Each Alike k → (fn : Words) (a : Role) (j : ℕ)
-      → Agree (child-visit (visits-of t (nesting trim) k) fn a j) (child-visit (visits-of t (flat trim) k) fn a j)
-  children-alike k h fn a j = each-at (visit-alg t (nesting trim)) (visit-alg t (flat trim)) Agree-all absent absent (λ a fn s s′ h n. h) k h j a fn
+      → Agree (child-visit (visits-of t (nesting sc trim) k) fn a j) (child-visit (visits-of t (flat sc trim) k) fn a j)
+  children-alike k h fn a j = each-at (visit-alg t (nesting sc trim)) (visit-alg t (flat sc trim)) Agree-all absent absent (λ a fn s s′ h n. h) k h j a fn
 
   alike-step : (r : ℕ) (w : Words) (k : Forest) → Each Alike k → Alike r w k
   alike-step r w k h a fn =
-      exec-like fn r w k (child-visit (visits-of t (nesting trim) k) fn) (child-visit (visits-of t (flat trim) k) fn) (stream t (nesting trim) r w k (visits-of t (nesting trim) k))
-      (stream t (flat trim) r w k (visits-of t (flat trim) k)) (visits-sticky t (nesting trim) k fn) (children-alike k h fn) (steps a w (own-tree k)) []
+      exec-like fn r w k (child-visit (visits-of t (nesting sc trim) k) fn) (child-visit (visits-of t (flat sc trim) k) fn) (stream t (nesting sc trim) r w k
+      (visits-of t (nesting sc trim) k))
+      (stream t (flat sc trim) r w k (visits-of t (flat sc trim) k)) (visits-sticky t (nesting sc trim) k fn) (children-alike k h fn) (steps sc a w (own-tree k)) []
 
   -- a function's own markers, labels, loops and flow are the same with and without the functions inside
   pub stream-alike : (r : ℕ) (w : Words) (k : Forest)
-      → Agree (stream t (nesting trim) r w k (visits-of t (nesting trim) k)) (stream t (flat trim) r w k (visits-of t (flat trim) k))
+      → Agree (stream t (nesting sc trim) r w k (visits-of t (nesting sc trim) k)) (stream t (flat sc trim) r w k (visits-of t (flat sc trim) k))
   unfolding stream
   stream-alike r w k =
-      exec-like w r w k (child-visit (visits-of t (nesting trim) k) w) (child-visit (visits-of t (flat trim) k) w) idle idle (visits-sticky t (nesting trim) k w)
+      exec-like w r w k (child-visit (visits-of t (nesting sc trim) k) w) (child-visit (visits-of t (flat sc trim) k) w) idle idle (visits-sticky t (nesting sc trim) k w)
       (children-alike k (each Alike alike-step k) w) (stream-steps w) []
 
 -- the stream that a state ends
@@ -380,7 +383,8 @@ module _ (P : Stream → Type 0) where
   abbrev pub blank : State
   blank = anew (record { errors = []; met = 0; streams = [] })
 
-  entered-keeps : (b : Bool) (r : ℕ) (w : Words) (v v′ : State → State) (m : List Mark) (l : ℕ) (ls os : List Loop) (e : Side) → Keeps v → Agree v v′ → P (stream-at r w (v′ blank))
+  entered-keeps : (b : Bool) (r : ℕ) (w : Words) (v v′ : State → State) (m : List Mark) (l : ℕ) (ls os : List Loop) (e : Side) → Keeps v → Agree v v′ → P (stream-at r
+      w (v′ blank))
       → Runs (flow (entered b r w v m l ls os e)) → Every P (e .streams) → Every P (streams (entered b r w v m l ls os e))
   entered-keeps false r w v v′ m l ls os e k g p n h = absurd n
   entered-keeps true r w v v′ m l ls os e k g p n h =
@@ -393,54 +397,54 @@ module _ (P : Stream → Type 0) where
   nested-keeps r w v v′ k g p (st m l ls os (Cut x a b) e) n h = h
   nested-keeps r w v v′ k g p (st m l ls os (Refused x q) e) n h = h
 
-  module _ (t : Semantic) (trim : List Loop → List Loop) (fn : Words) (r : ℕ) (w : Words) (k : Forest) (vs : Role → ℕ → State → State) (body : State → State)
+  module _ (sc : StackCode) (t : Lookup) (trim : List Loop → List Loop) (fn : Words) (r : ℕ) (w : Words) (k : Forest) (vs : Role → ℕ → State → State) (body : State → State)
       (sticky : (a : Role) (j : ℕ) → Sticky (vs a j)) (keeps : (a : Role) (j : ℕ) → Keeps (vs a j)) (inside : Keeps (nested true r w body)) where
-    act-keeps : (x : Step) (env : List ℕ) → Keeps (act t (nesting trim) fn r w k vs body x env)
+    act-keeps : (x : Step) (env : List ℕ) → Keeps (act t (nesting sc trim) fn r w k vs body x env)
     unfolding outward
-    act-keeps (say c x) env = emit-keeps (mark r (Do c x))
-    act-keeps (put c p v) env = emit-keeps (mark (number-of (spot-at (tree r w k none) p)) (Load c v))
-    act-keeps take env = same-keeps bump bump-same
+    act-keeps (push-op c x) env = emit-keeps (mark r (Do c x))
+    act-keeps (push-const c p v) env = emit-keeps (mark (number-of (spot-at (tree r w k none) p)) (Load c v))
+    act-keeps get-label env = same-keeps bump bump-same
     act-keeps (place i) env = emit-keeps (mark r (Label (getD env i 0)))
     act-keeps (jump h i) env = emit-keeps (mark r (To h (getD env i 0)))
-    act-keeps (back i) env = emit-keeps (mark r (Back (getD env i 0)))
+    act-keeps (jump-back i) env = emit-keeps (mark r (Back (getD env i 0)))
     act-keeps (visit pass a j) env = keeps a j
     act-keeps (visit keep a j) env = kept-keeps (vs a j) (keeps a j)
-    act-keeps (enter i j) env = let x = loop r (getD env i 0) (getD env j 0) in same-keeps (begin trim x) (begin-same trim x)
-    act-keeps leave env = same-keeps finish finish-same
+    act-keeps (begin-loop i j) env = let x = loop r (getD env i 0) (getD env j 0) in same-keeps (begin trim x) (begin-same trim x)
+    act-keeps end-loop env = same-keeps finish finish-same
     act-keeps (exit x) env = same-keeps (outward r w x) (λ s. out-same r w x (loops s) s)
-    act-keeps bar env = same-keeps (barred w (is-do fn)) (barred-same w (is-do fn))
-    act-keeps (seek u p) env =
+    act-keeps check-return env = same-keeps (barred w (is-do fn)) (barred-same w (is-do fn))
+    act-keeps (access u p) env =
         let i = number-of (spot-at (tree r w k none) p) in
-        let x = look t fn u (spot-at (tree r w k none) p) in
+        let x = t fn u (spot-at (tree r w k none) p) in
         same-keeps (sought r u i x) (sought-same r u i x)
-    act-keeps (stop x) env = halt-keeps (Refused x r)
+    act-keeps (refuse x) env = halt-keeps (Refused x r)
     act-keeps inner env = inside
 
-    exec-keeps : (is : List Step) (env : List ℕ) → Keeps (exec t (nesting trim) fn r w k vs body is env)
+    exec-keeps : (is : List Step) (env : List ℕ) → Keeps (exec t (nesting sc trim) fn r w k vs body is env)
     unfolding exec
     exec-keeps [] env s n h = h
     exec-keeps (x ∷ is) env s n h =
-        let env′ = named t (nesting trim) fn r w k vs body x env (labels s) in
-        let a = act t (nesting trim) fn r w k vs body x env s in
-        let n′ = sticky-runs (exec t (nesting trim) fn r w k vs body is env′) (exec-sticky t (nesting trim) fn r w k vs body sticky is env′) a n in
+        let env′ = named t (nesting sc trim) fn r w k vs body x env (labels s) in
+        let a = act t (nesting sc trim) fn r w k vs body x env s in
+        let n′ = sticky-runs (exec t (nesting sc trim) fn r w k vs body is env′) (exec-sticky t (nesting sc trim) fn r w k vs body sticky is env′) a n in
         exec-keeps is env′ a n (act-keeps x env s n′ h)
 
 -- every finished stream is that of its function walked alone
-module _ (t : Semantic) (trim : List Loop → List Loop) (recs : List ℕ) where
+module _ (sc : StackCode) (t : Lookup) (trim : List Loop → List Loop) (recs : List ℕ) where
   abbrev pub alone-stream : ℕ → Stream
-  alone-stream r = stream-at r (words recs r) (alone t (nesting trim) r (words recs r) (children recs r))
+  alone-stream r = stream-at r (words recs r) (alone t (nesting sc trim) r (words recs r) (children recs r))
 
   abbrev pub Is-alone : Stream → Type 0
   Is-alone x = x ≡ alone-stream (x .at)
 
   abbrev Body : ℕ → Words → Forest → State → State
-  Body r w k = stream t (nesting trim) r w k (visits-of t (nesting trim) k)
+  Body r w k = stream t (nesting sc trim) r w k (visits-of t (nesting sc trim) k)
 
   abbrev KeepsAlone : ℕ → Words → Forest → Type 0
   KeepsAlone r w k = w ≡ words recs r → k ≡ children recs r → Genuine recs k → (a : Role) (fn : Words)
-      → Keeps Is-alone (visit-alg t (nesting trim) r w k (visits-of t (nesting trim) k) a fn)
+      → Keeps Is-alone (visit-alg t (nesting sc trim) r w k (visits-of t (nesting sc trim) k) a fn)
 
-  children-keep : (k : Forest) → Each KeepsAlone k → Genuine recs k → (fn : Words) (a : Role) (j : ℕ) → Keeps Is-alone (child-visit (visits-of t (nesting trim) k) fn a j)
+  children-keep : (k : Forest) → Each KeepsAlone k → Genuine recs k → (fn : Words) (a : Role) (j : ℕ) → Keeps Is-alone (child-visit (visits-of t (nesting sc trim) k) fn a j)
   children-keep none h g fn a j = λ s n h. h
   children-keep (tree r w k s) (h, hs) (e, d, g, gs) fn a zero = h e d g a fn
   children-keep (tree r w k s) (h, hs) (e, d, g, gs) fn a (suc j) = children-keep s hs gs fn a j
@@ -451,35 +455,36 @@ module _ (t : Semantic) (trim : List Loop → List Loop) (recs : List ℕ) where
   body-keeps r w k h g = go (is-do w)
     where
       v : ℕ → State → State
-      v j = child-visit (visits-of t (nesting trim) k) w Expr j
+      v j = child-visit (visits-of t (nesting sc trim) k) w Expr j
 
       two : Keeps Is-alone (λ s. v 1 (v 0 s))
-      two = then-keeps Is-alone (v 0) (v 1) (children-keep k h g w Expr 0) (visits-sticky t (nesting trim) k w Expr 1) (children-keep k h g w Expr 1)
+      two = then-keeps Is-alone (v 0) (v 1) (children-keep k h g w Expr 0) (visits-sticky t (nesting sc trim) k w Expr 1) (children-keep k h g w Expr 1)
 
       say1 : (u : State → State) (c : Code) → Keeps Is-alone u → Keeps Is-alone (λ s. emit (mark r (Do c 0)) (u s))
       say1 u c y = then-keeps Is-alone u (emit (mark r (Do c 0))) y (emit-sticky (mark r (Do c 0))) (emit-keeps Is-alone (mark r (Do c 0)))
 
-      go : (d : Bool) → Keeps Is-alone (exec t (nesting trim) w r w k (child-visit (visits-of t (nesting trim) k) w) idle
-          (cond d (expr 0 ∷ expr 1 ∷ say Pop 0 ∷ say LoadLocals 0 ∷ say Return 0 ∷ []) (expr 0 ∷ expr 1 ∷ say Return 0 ∷ [])) [])
+      go : (d : Bool) → Keeps Is-alone (exec t (nesting sc trim) w r w k (child-visit (visits-of t (nesting sc trim) k) w) idle
+          (cond d (expr 0 ∷ expr 1 ∷ push-op Pop 0 ∷ push-op LoadLocals 0 ∷ push-op Return 0 ∷ []) (expr 0 ∷ expr 1 ∷ push-op Return 0 ∷ [])) [])
       go true = say1 (λ s. emit (mark r (Do LoadLocals 0)) (emit (mark r (Do Pop 0)) (v 1 (v 0 s)))) Return
           (say1 (λ s. emit (mark r (Do Pop 0)) (v 1 (v 0 s))) LoadLocals (say1 (λ s. v 1 (v 0 s)) Pop two))
       go false = say1 (λ s. v 1 (v 0 s)) Return two
 
   body-alone : (r : ℕ) (w : Words) (k : Forest) → w ≡ words recs r → k ≡ children recs r
-      → Is-alone (stream-at r w (stream t (flat trim) r w k (visits-of t (flat trim) k) (blank Is-alone)))
+      → Is-alone (stream-at r w (stream t (flat sc trim) r w k (visits-of t (flat sc trim) k) (blank Is-alone)))
   unfolding alone
-  body-alone r w k e d = ap₂ (λ (x : Words) (y : Forest). stream-at r x (alone t (nesting trim) r x y)) e d
+  body-alone r w k e d = ap₂ (λ (x : Words) (y : Forest). stream-at r x (alone t (nesting sc trim) r x y)) e d
 
   inside-keeps : (r : ℕ) (w : Words) (k : Forest) → w ≡ words recs r → k ≡ children recs r → Each KeepsAlone k → Genuine recs k → Keeps Is-alone (nested true r w (Body r w k))
   inside-keeps r w k e d h g =
-      nested-keeps Is-alone r w (Body r w k) (stream t (flat trim) r w k (visits-of t (flat trim) k)) (body-keeps r w k h g) (stream-alike t trim r w k) (body-alone r w k e d)
+      nested-keeps Is-alone r w (Body r w k) (stream t (flat sc trim) r w k (visits-of t (flat sc trim) k)) (body-keeps r w k h g) (stream-alike sc t trim r w k)
+      (body-alone r w k e d)
 
   keeps-step : (r : ℕ) (w : Words) (k : Forest) → Each KeepsAlone k → KeepsAlone r w k
   keeps-step r w k h e d g a fn =
-      exec-keeps Is-alone t trim fn r w k (child-visit (visits-of t (nesting trim) k) fn) (Body r w k) (visits-sticky t (nesting trim) k fn) (children-keep k h g fn)
-      (inside-keeps r w k e d h g) (steps a w (own-tree k)) []
+      exec-keeps Is-alone sc t trim fn r w k (child-visit (visits-of t (nesting sc trim) k) fn) (Body r w k) (visits-sticky t (nesting sc trim) k fn) (children-keep k h g fn)
+      (inside-keeps r w k e d h g) (steps sc a w (own-tree k)) []
 
   -- the whole run: each finished stream is that of its function walked alone
-  pub run-alone : Runs (flow (function-run t (nesting trim) 0 (words recs 0) (children recs 0) nothing))
-      → Every Is-alone (streams (function-run t (nesting trim) 0 (words recs 0) (children recs 0) nothing))
+  pub run-alone : Runs (flow (function-run t (nesting sc trim) 0 (words recs 0) (children recs 0) nothing))
+      → Every Is-alone (streams (function-run t (nesting sc trim) 0 (words recs 0) (children recs 0) nothing))
   run-alone n = inside-keeps 0 (words recs 0) (children recs 0) refl refl (each KeepsAlone keeps-step (children recs 0)) (genuine recs (first recs 0)) nothing n tt

@@ -14,9 +14,9 @@ use Rattle.tables.specs.Forest.{Forest, none, tree, children, root, count}
 use Rattle.tables.specs.Children.{suits, words-of, rooted, right-children}
 use Rattle.tables.proofs.ForestLaws.{and-l, and-r}
 use Rattle.pool.specs.Value.{Value, Null, same, Const, seen, intern}
-use Rattle.pool.specs.Names.{Semantic}
+use Rattle.rules.specs.declared.StackCode.{StackCode}
 use Rattle.rules.specs.Marker.{Label, To, Back, Leave, Load, Do, Mark, mark}
-use Rattle.rules.specs.Run.{Loop, Stream, State, st, side, settle, anew, returned, entered, nested, full, stream, visits-of, nothing, run}
+use Rattle.rules.specs.Run.{Lookup, Loop, Stream, State, st, side, settle, anew, returned, entered, nested, full, stream, visits-of, nothing, run}
 use Rattle.rules.specs.Out.{brought, consts}
 use Rattle.rules.specs.declared.Flow.the-variants.{Go, Cut, Refused}
 use Rattle.rules.proofs.Numbers.{Every, stream-meets}
@@ -54,18 +54,18 @@ function-most (tree r w k s) = go (is-function w) (function-most k) (function-mo
     go false p q = omega arith
 
 -- what the whole run costs, at any rates
-module _ {R : Rates} {b : Words → ℕ} {g : ℕ} (A : Afford R b g) (t : Semantic) (recs : List ℕ) (z : Shaped (root recs)) (f : T (is-function (words recs 0))) where
-  pub run-cost : load R (run t recs) ≤ budget b (root recs)
+module _ {R : Rates} {b : Words → ℕ} {g : ℕ} (A : Afford R b g) (sc : StackCode) (t : Lookup) (recs : List ℕ) (z : Shaped (root recs)) (f : T (is-function (words recs 0))) where
+  pub run-cost : load R (run sc t recs) ≤ budget b (root recs)
   unfolding run rep budget
   run-cost =
       let w = words recs 0 in
       let k = children recs 0 in
-      let v = stream t full 0 w k (visits-of t full k) in
+      let v = stream t (full sc) 0 w k (visits-of t (full sc) k) in
       let e = eqb→eq (w .kind) 30 f in
       omega (
         arith,
-        nested-within R true 0 w v _ (stream-within R t full 0 w k) nothing,
-        stream-bound A w k (function-shape w k (z .0) e) (z .1),
+        nested-within R true 0 w v _ (stream-within R t (full sc) 0 w k) nothing,
+        stream-bound A sc w k (function-shape w k (z .0) e) (z .1),
         A .function w e,
         A .part,
       )
@@ -228,18 +228,18 @@ settle-met (st m l ls os (Refused n r) e) = refl
 returned-met : (r : ℕ) (w : Words) (m : List Mark) (l : ℕ) (ls os : List Loop) (s : State) → side (returned r w m l ls os s) .met ≡ side s .met
 returned-met r w m l ls os (st m′ l′ ls′ os′ f e) = refl
 
-run-some : (t : Semantic) (recs : List ℕ) → words recs 0 .p ≡ 0 → 1 ≤ side (run t recs) .met
+run-some : (sc : StackCode) (t : Lookup) (recs : List ℕ) → words recs 0 .p ≡ 0 → 1 ≤ side (run sc t recs) .met
 unfolding run nested
-run-some t recs e =
+run-some sc t recs e =
     let w = words recs 0 in
     let k = children recs 0 in
-    let v = stream t full 0 w k (visits-of t full k) in
+    let v = stream t (full sc) 0 w k (visits-of t (full sc) k) in
     subst (λ (n : ℕ). 1 ≤ side (entered (eqb n 0) 0 w v [] 0 [] [] (side nothing)) .met) (sym e)
     (omega (
       arith,
       returned-met 0 w [] 0 [] [] (settle (v (anew (side nothing)))),
       settle-met (v (anew (side nothing))),
-      stream-meets t full 0 w k (anew (side nothing)) .count,
+      stream-meets t (full sc) 0 w k (anew (side nothing)) .count,
     ))
 
 -- each of the numbers added up is at most the sum
@@ -248,44 +248,44 @@ each-most f n [] h = tt
 each-most f n (x ∷ xs) h = (omega arith, each-most f n xs (omega arith))
 
 -- all streams together, and each by itself
-pub record Bounds (t : Semantic) (recs : List ℕ) : Type 0 where
-  pub markers : total marker-count (side (run t recs) .streams) ≤ 32 * count (root recs)
-  pub constants : total constant-count (side (run t recs) .streams) ≤ 3 * count (root recs)
-  pub labels : total label-count (side (run t recs) .streams) ≤ 4 * count (root recs)
-  pub errors : length (side (run t recs) .errors) ≤ count (root recs)
-  pub functions : side (run t recs) .met ≤ function-count (root recs)
-  pub some : words recs 0 .p ≡ 0 → 1 ≤ side (run t recs) .met
-  pub markers-each : Every (λ x. marker-count x ≤ 32 * count (root recs)) (side (run t recs) .streams)
-  pub constants-each : Every (λ x. constant-count x ≤ 3 * count (root recs)) (side (run t recs) .streams)
-  pub labels-each : Every (λ x. label-count x ≤ 4 * count (root recs)) (side (run t recs) .streams)
+pub record Bounds (sc : StackCode) (t : Lookup) (recs : List ℕ) : Type 0 where
+  pub markers : total marker-count (side (run sc t recs) .streams) ≤ 32 * count (root recs)
+  pub constants : total constant-count (side (run sc t recs) .streams) ≤ 3 * count (root recs)
+  pub labels : total label-count (side (run sc t recs) .streams) ≤ 4 * count (root recs)
+  pub errors : length (side (run sc t recs) .errors) ≤ count (root recs)
+  pub functions : side (run sc t recs) .met ≤ function-count (root recs)
+  pub some : words recs 0 .p ≡ 0 → 1 ≤ side (run sc t recs) .met
+  pub markers-each : Every (λ x. marker-count x ≤ 32 * count (root recs)) (side (run sc t recs) .streams)
+  pub constants-each : Every (λ x. constant-count x ≤ 3 * count (root recs)) (side (run sc t recs) .streams)
+  pub labels-each : Every (λ x. label-count x ≤ 4 * count (root recs)) (side (run sc t recs) .streams)
 
-pub bounds : (t : Semantic) (recs : List ℕ) → Shaped (root recs) → T (is-function (words recs 0)) → Bounds t recs
-bounds t recs z f =
-    let s = run t recs in
+pub bounds : (sc : StackCode) (t : Lookup) (recs : List ℕ) → Shaped (root recs) → T (is-function (words recs 0)) → Bounds sc t recs
+bounds sc t recs z f =
+    let s = run sc t recs in
     let xs = side s .streams in
     let n = count (root recs) in
     let m : total marker-count xs ≤ 32 * n =
-    omega (arith, run-cost (afford marker-rates 32 8 tt) t recs z f, load-streams marker-rates s, streams-marked xs, budget-level 32 (root recs)) in
+    omega (arith, run-cost (afford marker-rates 32 8 tt) sc t recs z f, load-streams marker-rates s, streams-marked xs, budget-level 32 (root recs)) in
     let c : total constant-count xs ≤ 3 * n =
-    omega (arith, run-cost (afford constant-rates 3 1 tt) t recs z f, load-streams constant-rates s, streams-constant xs, budget-level 3 (root recs)) in
+    omega (arith, run-cost (afford constant-rates 3 1 tt) sc t recs z f, load-streams constant-rates s, streams-constant xs, budget-level 3 (root recs)) in
     let l : total label-count xs ≤ 4 * n =
-    omega (arith, run-cost (afford label-rates 4 1 tt) t recs z f, load-streams label-rates s, streams-labelled xs, budget-level 4 (root recs)) in
+    omega (arith, run-cost (afford label-rates 4 1 tt) sc t recs z f, load-streams label-rates s, streams-labelled xs, budget-level 4 (root recs)) in
     record {
       markers = m;
       constants = c;
       labels = l;
-      errors = omega (arith, run-cost (afford error-rates 1 1 tt) t recs z f, load-errors s, budget-level 1 (root recs));
-      functions = omega (arith, run-cost met-afford t recs z f, load-met s, budget-functions (root recs));
-      some = λ e. run-some t recs e;
+      errors = omega (arith, run-cost (afford error-rates 1 1 tt) sc t recs z f, load-errors s, budget-level 1 (root recs));
+      functions = omega (arith, run-cost met-afford sc t recs z f, load-met s, budget-functions (root recs));
+      some = λ e. run-some sc t recs e;
       markers-each = each-most marker-count (32 * n) xs m;
       constants-each = each-most constant-count (3 * n) xs c;
       labels-each = each-most label-count (4 * n) xs l;
     }
 
 -- from row 6 of every record
-pub table-bounds : (t : Semantic) (recs : List ℕ) → 0 < size recs → ((r : ℕ) → r < size recs → right-children recs r ≡ true) → Bounds t recs
+pub table-bounds : (sc : StackCode) (t : Lookup) (recs : List ℕ) → 0 < size recs → ((r : ℕ) → r < size recs → right-children recs r ≡ true) → Bounds sc t recs
 unfolding right-children
-table-bounds t recs p right =
+table-bounds sc t recs p right =
     let u : T (right-children recs 0) = subst T (sym (right 0 p)) tt in
-    bounds t recs (table-shaped recs right p)
+    bounds sc t recs (table-shaped recs right p)
     (and-l (is-function (words recs 0)) _ (and-r (suits (words recs 0) (words-of (children recs 0))) (rooted recs) u))

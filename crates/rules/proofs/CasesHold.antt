@@ -6,7 +6,10 @@ use Prim.Native.Nat.{ℕ}
 use lib.Dec.{T}
 use Rattle.tables.specs.Forest.{guarded, first, next, grow, forest}
 use Rattle.pool.specs.Value.{same-list, find, seen, intern}
-use Rattle.pool.specs.Names.{share-start, index-of, with-symbol, with-symbols, names-upto, names, load, store}
+use Rattle.tables.specs.Semantic.{shareStart}
+use Rattle.pool.specs.Names.{index-of, with-symbol, with-symbols, names-upto, names, load, store}
+use Rattle.rules.specs.declared.StackCode.{StackCode}
+use Rattle.rules.specs.declared.StackCode.the-variants.{Code1}
 use Rattle.rules.specs.Kinds.{steps}
 use Rattle.rules.specs.Run.{emit, bump, halt, begin, finish, outward, barred, kept, nested, exec, stream, run}
 use Rattle.rules.specs.Out.{
@@ -35,16 +38,18 @@ gives c (refused x r) = false
 
 abbrev all-given : List Case → Bool
 all-given [] = true
-all-given (c ∷ cs) = gives c (outcome empty (c .records)) && all-given cs
+all-given (c ∷ cs) = gives c (outcome Code1 empty (c .records)) && all-given cs
 
 pub cases-hold : T (all-given cases)
-unfolding guarded first next grow forest find seen intern share-start index-of with-symbol with-symbols names-upto names load store steps emit bump halt begin finish outward barred kept nested exec stream run consts marker-words const-words plain-names upvalue-words error-words loop-depth stream-of each-function outcome
+unfolding guarded first next grow forest find seen intern shareStart index-of with-symbol with-symbols names-upto names load store steps emit bump halt begin finish
+    outward barred kept nested exec stream run consts marker-words const-words plain-names upvalue-words error-words loop-depth stream-of each-function outcome
 cases-hold = tt
 
 abbrev AllCome : List Request → Type 0
 AllCome [] = Unit {0}
-AllCome (c ∷ cs) = (outcome (c .tables) (c .records) ≡ c .outcome) × AllCome cs
+AllCome (c ∷ cs) = (outcome (c .code) (c .tables) (c .records) ≡ c .outcome) × AllCome cs
 
 pub requests-hold : AllCome requests
-unfolding guarded first next grow forest find seen intern share-start index-of with-symbol with-symbols names-upto names load store steps emit bump halt begin finish outward barred kept nested exec stream run consts marker-words const-words plain-names upvalue-words error-words loop-depth stream-of each-function outcome
-requests-hold = (refl, (refl, (refl, (refl, (refl, tt)))))
+unfolding guarded first next grow forest find seen intern shareStart index-of with-symbol with-symbols names-upto names load store steps emit bump halt begin finish
+    outward barred kept nested exec stream run consts marker-words const-words plain-names upvalue-words error-words loop-depth stream-of each-function outcome
+requests-hold = (refl, (refl, (refl, (refl, (refl, (refl, (refl, (refl, (refl, (refl, (refl, (refl, tt))))))))))))

@@ -10,19 +10,19 @@ use Rattle.rules.specs.Step.{
   Keep,
   Use,
   Step,
-  say,
-  put,
-  take,
+  push-op,
+  push-const,
+  get-label,
   place,
   jump,
-  back,
+  jump-back,
   visit,
-  enter,
-  leave,
+  begin-loop,
+  end-loop,
   exit,
-  bar,
-  seek,
-  stop,
+  check-return,
+  access,
+  refuse,
   inner,
 }
 use Rattle.rules.specs.Run.{Loop, loop}
@@ -70,35 +70,35 @@ settled false (within i j) = false
 
 -- a: the record is a loop
 abbrev pub fits : Bool → Chk → Step → Bool
-fits a (chk n pend done free lp) (say c x) = true
-fits a (chk n pend done free lp) (put c p v) = true
-fits a (chk n pend done free lp) take = is-out lp
+fits a (chk n pend done free lp) (push-op c x) = true
+fits a (chk n pend done free lp) (push-const c p v) = true
+fits a (chk n pend done free lp) get-label = is-out lp
 fits a (chk n pend done free lp) (place i) = has i pend
 fits a (chk n pend done free lp) (jump h i) = has i pend
-fits a (chk n pend done free lp) (back i) = has i done
+fits a (chk n pend done free lp) (jump-back i) = has i done
 fits a (chk n pend done free lp) (visit y b j) = sound-at pend done lp && settled a lp
-fits a (chk n pend done free lp) (enter i j) = is-out lp && (a && ((has i pend && has j pend) && (has i free && has j (del i free))))
-fits a (chk n pend done free lp) leave = is-in lp
+fits a (chk n pend done free lp) (begin-loop i j) = is-out lp && (a && ((has i pend && has j pend) && (has i free && has j (del i free))))
+fits a (chk n pend done free lp) end-loop = is-in lp
 fits a (chk n pend done free lp) (exit x) = is-out lp
-fits a (chk n pend done free lp) bar = true
-fits a (chk n pend done free lp) (seek u p) = true
-fits a (chk n pend done free lp) (stop x) = true
+fits a (chk n pend done free lp) check-return = true
+fits a (chk n pend done free lp) (access u p) = true
+fits a (chk n pend done free lp) (refuse x) = true
 fits a (chk n pend done free lp) inner = true
 
 abbrev pub next : Chk → Step → Chk
-next (chk n pend done free lp) (say c x) = chk n pend done free lp
-next (chk n pend done free lp) (put c p v) = chk n pend done free lp
-next (chk n pend done free lp) take = chk (suc n) (n ∷ pend) done (n ∷ free) lp
+next (chk n pend done free lp) (push-op c x) = chk n pend done free lp
+next (chk n pend done free lp) (push-const c p v) = chk n pend done free lp
+next (chk n pend done free lp) get-label = chk (suc n) (n ∷ pend) done (n ∷ free) lp
 next (chk n pend done free lp) (place i) = chk n (del i pend) (i ∷ done) free lp
 next (chk n pend done free lp) (jump h i) = chk n pend done free lp
-next (chk n pend done free lp) (back i) = chk n pend done free lp
+next (chk n pend done free lp) (jump-back i) = chk n pend done free lp
 next (chk n pend done free lp) (visit y b j) = chk n pend done free lp
-next (chk n pend done free lp) (enter i j) = chk n pend done (del j (del i free)) (within i j)
-next (chk n pend done free lp) leave = chk n pend done free outside
+next (chk n pend done free lp) (begin-loop i j) = chk n pend done (del j (del i free)) (within i j)
+next (chk n pend done free lp) end-loop = chk n pend done free outside
 next (chk n pend done free lp) (exit x) = chk n pend done free lp
-next (chk n pend done free lp) bar = chk n pend done free lp
-next (chk n pend done free lp) (seek u p) = chk n pend done free lp
-next (chk n pend done free lp) (stop x) = chk n pend done free lp
+next (chk n pend done free lp) check-return = chk n pend done free lp
+next (chk n pend done free lp) (access u p) = chk n pend done free lp
+next (chk n pend done free lp) (refuse x) = chk n pend done free lp
 next (chk n pend done free lp) inner = chk n pend done free lp
 
 abbrev pub final : Chk → Bool

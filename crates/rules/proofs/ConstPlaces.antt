@@ -187,7 +187,8 @@ known-intern n cs c h q k g = go (seen cs (c .value)) refl
   where
     go : (b : Bool) → seen cs (c .value) ≡ b → KnownFunction n (getD (intern cs c) k no-const .value)
     go true e =
-        subst (λ (ts : List Const). KnownFunction n (getD ts k no-const .value)) (sym (intern-old cs c e)) (h k (subst (λ (ts : List Const). k < length ts) (intern-old cs c e) g))
+        subst (λ (ts : List Const). KnownFunction n (getD ts k no-const .value)) (sym (intern-old cs c e)) (h k (subst (λ (ts : List Const). k < length ts) (intern-old
+        cs c e) g))
     go false e = subst (λ (ts : List Const). KnownFunction n (getD ts k no-const .value)) (sym (intern-new cs c e)) (at cs h k)
       where
         at : (ts : List Const) → ((k : ℕ) → k < length ts → KnownFunction n (getD ts k no-const .value)) → (k : ℕ) → KnownFunction n (getD (ts ++ (c ∷ [])) k no-const .value)

@@ -9,12 +9,35 @@ use Rattle.tables.specs.Record.{Words, is-do}
 use Rattle.tables.specs.Forest.{Forest, none, tree, fold, fold1, own-tree}
 use Rattle.tables.proofs.ForestLaws.{Each, each, each-at}
 use Rattle.pool.specs.Value.{Value, Null, same}
-use Rattle.pool.specs.Names.{Semantic, Access, local, global, upvalue, missing}
+use Rattle.pool.specs.Names.{Access, local, global, upvalue, missing}
+use Rattle.rules.specs.declared.StackCode.{StackCode}
 use Rattle.rules.specs.Marker.{Way, LoadUpvalue, Op, Label, To, Back, Leave, Load, Do, Mark, mark}
-use Rattle.rules.specs.Step.{Role, Keep, pass, keep, Use, Step, say, put, take, place, jump, back, visit, enter, leave, exit, bar, seek, stop, inner}
+use Rattle.rules.specs.Step.{
+  Role,
+  Keep,
+  pass,
+  keep,
+  Use,
+  Step,
+  push-op,
+  push-const,
+  get-label,
+  place,
+  jump,
+  jump-back,
+  visit,
+  begin-loop,
+  end-loop,
+  exit,
+  check-return,
+  access,
+  refuse,
+  inner,
+}
 use Rattle.rules.specs.Arms.{stream-steps}
 use Rattle.rules.specs.Kinds.{steps}
 use Rattle.rules.specs.Run.{
+  Lookup,
   Loop,
   loop,
   way-kind,
@@ -56,7 +79,6 @@ use Rattle.rules.specs.Run.{
   visits-of,
   spot-at,
   number-of,
-  look,
 }
 use Rattle.rules.specs.declared.Flow.{Flow}
 use Rattle.rules.specs.declared.Flow.the-variants.{Go, Cut, Refused}
@@ -114,19 +136,19 @@ module _ (R : Rates) where
   -- ks: the cost of each child in each role; body: that of the record's own stream
   module _ (ks : Role → ℕ → ℕ) (body : ℕ) where
     abbrev pub step-cost : Step → ℕ
-    step-cost (say c x) = R .on-marker
-    step-cost (put c p v) = value-cost v
-    step-cost take = R .on-label
+    step-cost (push-op c x) = R .on-marker
+    step-cost (push-const c p v) = value-cost v
+    step-cost get-label = R .on-label
     step-cost (place i) = R .on-marker
     step-cost (jump h i) = R .on-marker
-    step-cost (back i) = R .on-marker
+    step-cost (jump-back i) = R .on-marker
     step-cost (visit y a j) = keep-cost y + ks a j
-    step-cost (enter i j) = 0
-    step-cost leave = 0
+    step-cost (begin-loop i j) = 0
+    step-cost end-loop = 0
     step-cost (exit x) = R .on-marker
-    step-cost bar = 0
-    step-cost (seek u p) = R .on-marker
-    step-cost (stop x) = 0
+    step-cost check-return = 0
+    step-cost (access u p) = R .on-marker
+    step-cost (refuse x) = 0
     step-cost inner = inner-cost body
 
     unfoldable pub weigh : List Step → ℕ
@@ -139,15 +161,15 @@ module _ (R : Rates) where
   abbrev pub stream-cost : Words → List (Role → ℕ) → ℕ
   stream-cost w ks = weigh (child-cost ks) 0 (stream-steps w)
 
-  abbrev pub cost-alg : ℕ → Words → Forest → List (Role → ℕ) → Role → ℕ
-  cost-alg r w k ks a = weigh (child-cost ks) (stream-cost w ks) (steps a w (own-tree k))
+  abbrev pub cost-alg : StackCode → ℕ → Words → Forest → List (Role → ℕ) → Role → ℕ
+  cost-alg sc r w k ks a = weigh (child-cost ks) (stream-cost w ks) (steps sc a w (own-tree k))
 
   -- the cost of some trees, and of one record in a role
-  abbrev pub costs-of : Forest → List (Role → ℕ)
-  costs-of f = fold cost-alg f
+  abbrev pub costs-of : StackCode → Forest → List (Role → ℕ)
+  costs-of sc f = fold (cost-alg sc) f
 
-  abbrev pub cost-of : ℕ → Words → Forest → Role → ℕ
-  cost-of r w k = fold1 cost-alg r w k
+  abbrev pub cost-of : StackCode → ℕ → Words → Forest → Role → ℕ
+  cost-of sc r w k = fold1 (cost-alg sc) r w k
 
   abbrev pub Within : (State → State) → ℕ → Type 0
   Within v c = (s : State) → load (v s) ≤ load s + c
@@ -228,23 +250,23 @@ module _ (R : Rates) where
   nested-within true r w v c h (st m l ls os (Cut y a b) e) = omega arith
   nested-within true r w v c h (st m l ls os (Refused y q) e) = omega arith
 
-  module _ (t : Semantic) (o : Mode) (fn : Words) (r : ℕ) (w : Words) (k : Forest) (vs : Role → ℕ → State → State) (body : State → State) (ks : Role → ℕ → ℕ) (c : ℕ)
+  module _ (t : Lookup) (o : Mode) (fn : Words) (r : ℕ) (w : Words) (k : Forest) (vs : Role → ℕ → State → State) (body : State → State) (ks : Role → ℕ → ℕ) (c : ℕ)
       (within : (a : Role) (j : ℕ) → Within (vs a j) (ks a j)) (inside : Within body c) where
     act-within : (x : Step) (env : List ℕ) → Within (act t o fn r w k vs body x env) (step-cost ks c x)
     unfolding outward
-    act-within (say y x) env s = emit-within r (Do y x) s
-    act-within (put y p v) env s = emit-within (number-of (spot-at (tree r w k none) p)) (Load y v) s
-    act-within take env s = bump-within s
+    act-within (push-op y x) env s = emit-within r (Do y x) s
+    act-within (push-const y p v) env s = emit-within (number-of (spot-at (tree r w k none) p)) (Load y v) s
+    act-within get-label env s = bump-within s
     act-within (place i) env s = emit-within r (Label (getD env i 0)) s
     act-within (jump h i) env s = emit-within r (To h (getD env i 0)) s
-    act-within (back i) env s = emit-within r (Back (getD env i 0)) s
+    act-within (jump-back i) env s = emit-within r (Back (getD env i 0)) s
     act-within (visit y a j) env s = keeping-within y (vs a j) (ks a j) (within a j) s
-    act-within (enter i j) env s = begin-within (o .trim) (loop r (getD env i 0) (getD env j 0)) s
-    act-within leave env s = finish-within s
+    act-within (begin-loop i j) env s = begin-within (o .trim) (loop r (getD env i 0) (getD env j 0)) s
+    act-within end-loop env s = finish-within s
     act-within (exit x) env s = way-within r w x (loops s) s
-    act-within bar env s = barred-within w (is-do fn) s
-    act-within (seek u p) env s = sought-within r u (number-of (spot-at (tree r w k none) p)) (look t fn u (spot-at (tree r w k none) p)) s
-    act-within (stop x) env s = halt-within (Refused x r) 0 s
+    act-within check-return env s = barred-within w (is-do fn) s
+    act-within (access u p) env s = sought-within r u (number-of (spot-at (tree r w k none) p)) (t fn u (spot-at (tree r w k none) p)) s
+    act-within (refuse x) env s = halt-within (Refused x r) 0 s
     act-within inner env s = nested-within (o .nest) r w body c inside s
 
     pub exec-within : (is : List Step) (env : List ℕ) → Within (exec t o fn r w k vs body is env) (weigh ks c is)
@@ -256,30 +278,31 @@ module _ (R : Rates) where
   abbrev WithinAll : Visit → (Role → ℕ) → Type 0
   WithinAll v c = (a : Role) (fn : Words) → Within (v a fn) (c a)
 
-  module _ (t : Semantic) (o : Mode) where
+  module _ (t : Lookup) (o : Mode) where
     abbrev Each-within : Forest → Type 0
-    Each-within k = Each (λ r w k. WithinAll (visit-alg t o r w k (visits-of t o k)) (cost-of r w k)) k
+    Each-within k = Each (λ r w k. WithinAll (visit-alg t o r w k (visits-of t o k)) (cost-of (o .code) r w k)) k
 
-    children-within : (k : Forest) → Each-within k → (fn : Words) (a : Role) (j : ℕ) → Within (child-visit (visits-of t o k) fn a j) (child-cost (costs-of k) a j)
-    children-within k h fn a j = each-at (visit-alg t o) cost-alg WithinAll absent (λ a. 0) (λ a fn s. omega arith) k h j a fn
+    children-within : (k : Forest) → Each-within k → (fn : Words) (a : Role) (j : ℕ) → Within (child-visit (visits-of t o k) fn a j) (child-cost (costs-of (o .code) k) a j)
+    children-within k h fn a j = each-at (visit-alg t o) (cost-alg (o .code)) WithinAll absent (λ a. 0) (λ a fn s. omega arith) k h j a fn
 
-    body-within : (r : ℕ) (w : Words) (k : Forest) → Each-within k → Within (stream t o r w k (visits-of t o k)) (stream-cost w (costs-of k))
+    body-within : (r : ℕ) (w : Words) (k : Forest) → Each-within k → Within (stream t o r w k (visits-of t o k)) (stream-cost w (costs-of (o .code) k))
     unfolding stream
     body-within r w k h =
-        exec-within t o w r w k (child-visit (visits-of t o k) w) idle (child-cost (costs-of k)) 0 (children-within k h w) (λ s. omega arith) (stream-steps w) []
+        exec-within t o w r w k (child-visit (visits-of t o k) w) idle (child-cost (costs-of (o .code) k)) 0 (children-within k h w) (λ s. omega arith) (stream-steps w) []
 
-    within-step : (r : ℕ) (w : Words) (k : Forest) → Each-within k → WithinAll (visit-alg t o r w k (visits-of t o k)) (cost-of r w k)
+    within-step : (r : ℕ) (w : Words) (k : Forest) → Each-within k → WithinAll (visit-alg t o r w k (visits-of t o k)) (cost-of (o .code) r w k)
     within-step r w k h a fn =
-        exec-within t o fn r w k (child-visit (visits-of t o k) fn) (stream t o r w k (visits-of t o k)) (child-cost (costs-of k)) (stream-cost w (costs-of k))
-        (children-within k h fn) (body-within r w k h) (steps a w (own-tree k)) []
+        exec-within t o fn r w k (child-visit (visits-of t o k) fn) (stream t o r w k (visits-of t o k)) (child-cost (costs-of (o .code) k)) (stream-cost w (costs-of
+        (o .code) k))
+        (children-within k h fn) (body-within r w k h) (steps (o .code) a w (own-tree k)) []
 
     each-within : (k : Forest) → Each-within k
-    each-within k = each (λ r w k. WithinAll (visit-alg t o r w k (visits-of t o k)) (cost-of r w k)) within-step k
+    each-within k = each (λ r w k. WithinAll (visit-alg t o r w k (visits-of t o k)) (cost-of (o .code) r w k)) within-step k
 
     -- whatever a visit does, from any state, cut short or refused or not, it costs no more than the tree says
-    pub visit-within : (r : ℕ) (w : Words) (k : Forest) (a : Role) (fn : Words) → Within (visit-alg t o r w k (visits-of t o k) a fn) (cost-of r w k a)
+    pub visit-within : (r : ℕ) (w : Words) (k : Forest) (a : Role) (fn : Words) → Within (visit-alg t o r w k (visits-of t o k) a fn) (cost-of (o .code) r w k a)
     visit-within r w k a fn = within-step r w k (each-within k) a fn
 
     -- and a function's own stream
-    pub stream-within : (r : ℕ) (w : Words) (k : Forest) → Within (stream t o r w k (visits-of t o k)) (stream-cost w (costs-of k))
+    pub stream-within : (r : ℕ) (w : Words) (k : Forest) → Within (stream t o r w k (visits-of t o k)) (stream-cost w (costs-of (o .code) k))
     stream-within r w k = body-within r w k (each-within k)

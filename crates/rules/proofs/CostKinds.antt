@@ -10,6 +10,8 @@ use Rattle.tables.specs.Forest.{Forest, none, tree, Nodes, breadth, own-tree}
 use Rattle.tables.specs.Children.{suits, words-of}
 use Rattle.tables.proofs.ForestLaws.{and-l, Each, each}
 use Rattle.pool.specs.Value.{lit}
+use Rattle.rules.specs.declared.StackCode.{StackCode}
+use Rattle.rules.specs.declared.StackCode.the-variants.{Code1, Code2}
 use Rattle.rules.specs.Marker.{Code, Jump, Pop, Copy, Swap, BuildTable, BuildList, ImportGlob, Call, Return, ReturnCall, LoadLocals}
 use Rattle.rules.specs.Step.{
   Role,
@@ -19,15 +21,17 @@ use Rattle.rules.specs.Step.{
   Target,
   Before,
   After,
+  pass,
   Set,
   Step,
-  say,
-  take,
+  push-op,
+  get-label,
   place,
   jump,
-  back,
-  leave,
-  seek,
+  jump-back,
+  visit,
+  end-loop,
+  access,
   expr,
   null,
   visits,
@@ -60,6 +64,9 @@ use Rattle.rules.specs.Arms.{
   property,
   get-code,
   set-code,
+  safe-jump,
+  unlabelled,
+  member-label,
   member-steps,
   is-method,
   method-steps,
@@ -73,6 +80,7 @@ use Rattle.rules.specs.Arms.{
   if-steps,
   for-steps,
   is-tail,
+  return-label,
   return-steps,
   simple-import,
   import-steps,
@@ -127,13 +135,13 @@ use Rattle.rules.proofs.CostParts.{
   safe-weigh,
 }
 
-module _ {R : Rates} {b : Words → ℕ} {g : ℕ} (A : Afford R b g) where
+module _ {R : Rates} {b : Words → ℕ} {g : ℕ} (A : Afford R b g) (sc : StackCode) where
   -- a function's own stream costs its Params, its Block and three markers
   stream-most : (ks : Role → ℕ → ℕ) (w : Words) → weigh R ks 0 (stream-steps w) ≤ ks Expr 0 + (ks Expr 1 + 3 * R .on-marker)
   unfolding weigh
   stream-most ks w = go (is-do w)
     where
-      go : (d : Bool) → weigh R ks 0 (cond d (expr 0 ∷ expr 1 ∷ say Pop 0 ∷ say LoadLocals 0 ∷ say Return 0 ∷ []) (expr 0 ∷ expr 1 ∷ say Return 0 ∷ []))
+      go : (d : Bool) → weigh R ks 0 (cond d (expr 0 ∷ expr 1 ∷ push-op Pop 0 ∷ push-op LoadLocals 0 ∷ push-op Return 0 ∷ []) (expr 0 ∷ expr 1 ∷ push-op Return 0 ∷ []))
           ≤ ks Expr 0 + (ks Expr 1 + 3 * R .on-marker)
       go true = omega arith
       go false = omega arith
@@ -173,13 +181,13 @@ module _ {R : Rates} {b : Words → ℕ} {g : ℕ} (A : Afford R b g) where
     fn-paid w k e t h = either (eqb (w .detail) 1) _ _ _ _ (omega (arith, A .fixed w, second k h Expr)) (omega (arith, A .fixed w, one k h Expr))
 
     -- all children, and one marker
-    all-paid : (c : Code) (x : ℕ) (w : Words) (k : Forest) → Here k → W (visits Expr 0 (width (own-tree k)) (say c x ∷ [])) + (g + 0) ≤ b w + budget b k
+    all-paid : (c : Code) (x : ℕ) (w : Words) (k : Forest) → Here k → W (visits Expr 0 (width (own-tree k)) (push-op c x ∷ [])) + (g + 0) ≤ b w + budget b k
     unfolding weigh
     all-paid c x w k h =
         omega (
           arith,
           A .fixed w,
-          visits-weigh A ks body (width (own-tree k)) k 0 Expr (say c x ∷ []) h,
+          visits-weigh A ks body (width (own-tree k)) k 0 Expr (push-op c x ∷ []) h,
           front-all b (width (own-tree k)) k,
         )
 
@@ -191,43 +199,57 @@ module _ {R : Rates} {b : Words → ℕ} {g : ℕ} (A : Afford R b g) where
         either (eqb (w .detail) 5) _ _ _ _ (omega arith)
         (either (eqb (w .detail) 6) _ _ _ _ (omega arith) (either (no-opcode (w .detail)) _ _ _ _ (omega arith) (omega arith)))
 
-    member-paid : Paid 12 member-steps
+    -- a Member costs most with its label
+    label-weigh : (w : Words) (is : List Step → List Step) (x : ℕ) → W (is []) ≤ x → W (is (place 0 ∷ [])) ≤ R .on-marker + x
+        → W (member-label sc w is) ≤ R .on-label + (2 * R .on-marker + x)
+    unfolding weigh
+    label-weigh w is x p q = go (unlabelled sc (w .detail))
+      where
+        go : (c : Bool) → W (cond c (is []) (get-label ∷ safe-jump w (is (place 0 ∷ [])))) ≤ R .on-label + (2 * R .on-marker + x)
+        go true = omega arith
+        go false = omega (arith, safe-weigh A ks body w (is (place 0 ∷ [])))
+
+    member-paid : Paid 12 (member-steps sc)
     unfolding weigh
     member-paid w k e t h =
-        let last = say (get-code (w .detail % 8)) 0 ∷ place 0 ∷ [] in
+        let m = w .detail % 8 in
+        let last : List Step → List Step = λ end. push-op (get-code m) 0 ∷ end in
         omega (
           arith,
           A .fixed w,
           two k h Expr Expr,
-          safe-weigh A ks body w (property (w .detail % 8) (own-tree k) last),
-          property-weigh A ks body (w .detail % 8) (own-tree k) last,
+          label-weigh w (λ end. property m (own-tree k) (last end)) (ks Expr 1 + (R .on-const + R .on-marker))
+              (omega (arith, property-weigh A ks body m (own-tree k) (last [])))
+              (omega (arith, property-weigh A ks body m (own-tree k) (last (place 0 ∷ [])))),
         )
 
-    method-paid : (w : Words) (k : Forest) → Here k → W (method-steps w (own-tree k)) + g ≤ b w + budget b k
+    method-paid : (w : Words) (k : Forest) → Here k → W (method-steps sc w (own-tree k)) + g ≤ b w + budget b k
     unfolding weigh
     method-paid w k h =
-        let last = say (get-code (w .detail % 8)) 0 ∷ say Swap 2 ∷ place 0 ∷ [] in
+        let m = w .detail % 8 in
+        let last : List Step → List Step = λ end. push-op (get-code m) 0 ∷ push-op Swap 2 ∷ end in
         omega (
           arith,
           A .fixed w,
           two k h Expr Expr,
-          safe-weigh A ks body w (say Copy 1 ∷ property (w .detail % 8) (own-tree k) last),
-          property-weigh A ks body (w .detail % 8) (own-tree k) last,
+          label-weigh w (λ end. push-op Copy 1 ∷ property m (own-tree k) (last end)) (ks Expr 1 + (R .on-const + 3 * R .on-marker))
+              (omega (arith, property-weigh A ks body m (own-tree k) (last [])))
+              (omega (arith, property-weigh A ks body m (own-tree k) (last (place 0 ∷ [])))),
         )
 
     call-some : (c : Code) (w : Words) (n a m r : ℕ) (w′ : Words) (k s : Forest) → Here (tree r w′ k s) → m ≤ breadth (from-tree a s)
         → W (call-with c n a m) + g ≤ b w + budget b (tree r w′ k s)
     unfolding weigh budget
     call-some c w n a zero r w′ k s (h, hs) p =
-        omega (arith, A .fixed w, h .once Callee, visits-weigh A ks body a s 1 Expr (say c n ∷ []) hs, front-all b a s)
+        omega (arith, A .fixed w, h .once Callee, visits-weigh A ks body a s 1 Expr (push-op c n ∷ []) hs, front-all b a s)
     call-some c w n a (suc m) r w′ k s (h, hs) p =
         let x = R .on-label + 2 * R .on-marker in
-        let more = say Call n ∷ jump Jump 0 ∷ bodies 1 (suc a) (suc m) (place 0 ∷ []) in
+        let more = push-op Call n ∷ jump Jump 0 ∷ bodies 1 (suc a) (suc m) (place 0 ∷ []) in
         omega (
           arith,
           A .fixed w,
           h .once Callee,
-          visits-weigh A ks body a s 1 Expr (take ∷ registers 1 (suc a) (suc m) more) hs,
+          visits-weigh A ks body a s 1 Expr (get-label ∷ registers 1 (suc a) (suc m) more) hs,
           registers-weigh A ks body (suc m) 1 (suc a) more,
           bodies-weigh A ks body x (omega (arith, A .arm)) (suc m) (from-tree a s) 1 (suc a) (place 0 ∷ []) p (covers-from A ks body a s 1 (suc a) (omega arith) hs),
           front-all b a s,
@@ -253,7 +275,7 @@ module _ {R : Rates} {b : Words → ℕ} {g : ℕ} (A : Afford R b g) where
     match-paid w none e t h = omega (arith, A .fixed w)
     match-paid w (tree r w′ k s) e t (h, hs) =
         let n = width (own-tree s) in
-        let last = place 0 ∷ say Swap 2 ∷ say Pop 0 ∷ [] in
+        let last = place 0 ∷ push-op Swap 2 ∷ push-op Pop 0 ∷ [] in
         let more = null ∷ jump Jump 0 ∷ bodies 1 1 n last in
         omega (
           arith,
@@ -270,24 +292,29 @@ module _ {R : Rates} {b : Words → ℕ} {g : ℕ} (A : Afford R b g) where
     for-paid w k e t h =
         let p = w .p in
         let x = R .on-const + 3 * R .on-marker in
-        let more = expr (suc p) ∷ say Pop 0 ∷ back 0 ∷ place 1 ∷ say Pop 0 ∷ null ∷ leave ∷ [] in
+        let more = expr (suc p) ∷ push-op Pop 0 ∷ jump-back 0 ∷ place 1 ∷ push-op Pop 0 ∷ null ∷ end-loop ∷ [] in
         omega (
           arith,
           A .fixed w,
-          either (eqb p 1) (seek Set (0 ∷ []) ∷ more) (items-stored 0 p (say Pop 0 ∷ more)) 0 (rep x p + (R .on-marker + W more)) (omega arith)
-              (omega (arith, items-weigh A ks body p 0 (say Pop 0 ∷ more))),
+          either (eqb p 1) (access Set (0 ∷ []) ∷ more) (items-stored 0 p (push-op Pop 0 ∷ more)) 0 (rep x p + (R .on-marker + W more)) (omega arith)
+              (omega (arith, items-weigh A ks body p 0 (push-op Pop 0 ∷ more))),
           rep-front b x (λ w. omega (arith, A .fixed w)) p k (for-shape w k t e),
           two-children A ks body p (from-tree p k) (covers-from A ks body p k 0 p (omega arith) h) Expr Expr,
           front-all b p k,
         )
 
-    return-paid : Paid 21 return-steps
+    -- and so does a Return
+    return-weigh : (c : StackCode) (is : List Step) → W (return-label c is) ≤ R .on-label + (2 * R .on-marker + W is)
+    unfolding weigh
+    return-weigh Code1 is = omega arith
+    return-weigh Code2 is = omega arith
+
+    return-paid : Paid 21 (return-steps sc)
     unfolding weigh
     return-paid w k e t h =
         let f = A .fixed w in
-        let y = one k h Tail in
-        let z = one k h Expr in
-        either (is-tail (own-tree k)) _ _ _ _ (omega arith) (omega arith)
+        either (is-tail (own-tree k)) _ _ _ _ (omega (arith, return-weigh sc (visit pass Tail 0 ∷ null ∷ []), one k h Tail))
+        (omega (arith, return-weigh sc (expr 0 ∷ push-op Return 0 ∷ null ∷ []), one k h Expr))
 
     simple-weigh : (w : Words) (p : ℕ) → W (simple-import w p) ≤ R .on-marker + R .on-null
     unfolding weigh
@@ -299,16 +326,16 @@ module _ {R : Rates} {b : Words → ℕ} {g : ℕ} (A : Afford R b g) where
     import-paid w k e t h =
         let f = A .fixed w in
         let n = width (own-tree k) - w .p in
-        let items = visits Expr (w .p) n (say Pop 0 ∷ null ∷ []) in
+        let items = visits Expr (w .p) n (push-op Pop 0 ∷ null ∷ []) in
         let z = b w + budget b k in
         let u = R .on-const + g in
         omega (
           arith,
-          either (ltb (w .detail) 2) (simple-import w (w .p)) (cond (eqb (w .detail) 2) items (say ImportGlob 0 ∷ null ∷ [])) u z (omega (arith, simple-weigh w (w .p)))
-              (either (eqb (w .detail) 2) items (say ImportGlob 0 ∷ null ∷ []) u z
+          either (ltb (w .detail) 2) (simple-import w (w .p)) (cond (eqb (w .detail) 2) items (push-op ImportGlob 0 ∷ null ∷ [])) u z (omega (arith, simple-weigh w (w .p)))
+              (either (eqb (w .detail) 2) items (push-op ImportGlob 0 ∷ null ∷ []) u z
               (omega (
                 arith,
-                visits-weigh A ks body n (from-tree (w .p) k) (w .p) Expr (say Pop 0 ∷ null ∷ []) (covers-from A ks body (w .p) k 0 (w .p) (omega arith) h),
+                visits-weigh A ks body n (from-tree (w .p) k) (w .p) Expr (push-op Pop 0 ∷ null ∷ []) (covers-from A ks body (w .p) k 0 (w .p) (omega arith) h),
                 front-all b n (from-tree (w .p) k),
                 front-all b (w .p) k,
               )) (omega arith)),
@@ -385,14 +412,14 @@ module _ {R : Rates} {b : Words → ℕ} {g : ℕ} (A : Afford R b g) where
     unfolding weigh
     target-paid w k h =
         let f = A .fixed w in
-        let last = say (set-code (w .detail - 1)) 0 ∷ seek Set (0 ∷ []) ∷ [] in
+        let last = push-op (set-code (w .detail - 1)) 0 ∷ access Set (0 ∷ []) ∷ [] in
         either (eqb (w .detail) 0) _ _ _ _ (omega arith)
         (omega (arith, second k h Expr, property-weigh A ks body (w .detail - 1) (own-tree k) last))
 
     before-most : (w : Words) (k : Nodes) → W (before-steps w k) + 0 ≤ ks Expr 1 + (R .on-const + 4 * R .on-marker)
     unfolding weigh
     before-most w k =
-        let last = say Copy 2 ∷ say Copy 2 ∷ say (get-code (w .detail - 1)) 0 ∷ [] in
+        let last = push-op Copy 2 ∷ push-op Copy 2 ∷ push-op (get-code (w .detail - 1)) 0 ∷ [] in
         either (eqb (w .detail) 0) _ _ _ _ (omega arith)
         (either (ltb (w .detail) 4) _ _ _ _ (omega (arith, property-weigh A ks body (w .detail - 1) k last)) (omega arith))
 
@@ -471,7 +498,7 @@ module _ {R : Rates} {b : Words → ℕ} {g : ℕ} (A : Afford R b g) where
     list-paid : Paid 8 list-steps
     list-paid w k e t h = all-paid BuildList (width (own-tree k)) w k h
 
-    kinds-paid : AllPaid kinds
+    kinds-paid : AllPaid (kinds sc)
     kinds-paid =
         lit-paid also ident-paid also paren-paid also block-paid also fn-paid also effect-paid also table-paid also list-paid
         also unary-paid also binary-paid also type-check-paid also member-paid also calls-paid Call also if-paid
@@ -507,11 +534,11 @@ module _ {R : Rates} {b : Words → ℕ} {g : ℕ} (A : Afford R b g) where
         omega arith
     only n w k false x y e f p q = q
 
-    once-paid : (a : Role) (w : Words) (k : Forest) → T (suits w (words-of k)) → Here k → W (steps a w (own-tree k)) + (g + extra b (w .kind) w k) ≤ b w + budget b k
+    once-paid : (a : Role) (w : Words) (k : Forest) → T (suits w (words-of k)) → Here k → W (steps sc a w (own-tree k)) + (g + extra b (w .kind) w k) ≤ b w + budget b k
     unfolding steps
-    once-paid Expr w k t h = paid-at kinds kinds-paid (w .kind) w k refl t h
+    once-paid Expr w k t h = paid-at (kinds sc) kinds-paid (w .kind) w k refl t h
     once-paid Callee w k t h =
-        only 12 w k (is-method w) _ _ refl (λ c. eqb→eq (w .kind) 12 (and-l (is-kind 12 w) _ c)) (method-paid w k h) (paid-at kinds kinds-paid (w .kind) w k refl t h)
+        only 12 w k (is-method w) _ _ refl (λ c. eqb→eq (w .kind) 12 (and-l (is-kind 12 w) _ c)) (method-paid w k h) (paid-at (kinds sc) kinds-paid (w .kind) w k refl t h)
     once-paid Tail w k t h = only 13 w k (is-kind 13 w) _ _ refl (eqb→eq (w .kind) 13) (call-paid ReturnCall w k h) (none-paid (w .kind) w k)
     once-paid Target w k t h = only 34 w k (is-kind 34 w) _ _ refl (eqb→eq (w .kind) 34) (target-paid w k h) (none-paid (w .kind) w k)
     once-paid Before w k t h =
@@ -519,7 +546,7 @@ module _ {R : Rates} {b : Words → ℕ} {g : ℕ} (A : Afford R b g) where
     once-paid After w k t h =
         only 34 w k (is-kind 34 w) _ _ refl (eqb→eq (w .kind) 34) (omega (arith, A .fixed w, after-most w (own-tree k))) (none-paid (w .kind) w k)
 
-    twice-paid : (w : Words) (k : Forest) → Here k → W (steps Before w (own-tree k)) + W (steps After w (own-tree k)) + (g + extra b (w .kind) w k) ≤ b w + budget b k
+    twice-paid : (w : Words) (k : Forest) → Here k → W (steps sc Before w (own-tree k)) + W (steps sc After w (own-tree k)) + (g + extra b (w .kind) w k) ≤ b w + budget b k
     unfolding steps weigh
     twice-paid w k h = go (is-kind 34 w) (eqb→eq (w .kind) 34)
       where
@@ -541,25 +568,25 @@ module _ {R : Rates} {b : Words → ℕ} {g : ℕ} (A : Afford R b g) where
       (record { once = λ a. omega (arith, h .once a, e a j); twice = omega (arith, h .twice, e Before j, e After j) }, shift ks ks′ e s (suc j) hs)
 
   abbrev Owes : ℕ → Words → Forest → Type 0
-  Owes r w k = T (suits w (words-of k)) → Shaped k → Settles (cost-of R r w k) (g + extra b (w .kind) w k) (b w + budget b k)
+  Owes r w k = T (suits w (words-of k)) → Shaped k → Settles (cost-of R sc r w k) (g + extra b (w .kind) w k) (b w + budget b k)
 
-  covers : (k : Forest) → Each Owes k → Shaped k → Covers b g (child-cost R (costs-of R k)) 0 k
+  covers : (k : Forest) → Each Owes k → Shaped k → Covers b g (child-cost R (costs-of R sc k)) 0 k
   covers none h z = λ i p a. refl
-  covers (tree r w k s) (h, hs) (t, x, y) = (h t x, shift (child-cost R (costs-of R s)) (child-cost R (costs-of R (tree r w k s))) (λ a i. refl) s 0 (covers s hs y))
+  covers (tree r w k s) (h, hs) (t, x, y) = (h t x, shift (child-cost R (costs-of R sc s)) (child-cost R (costs-of R sc (tree r w k s))) (λ a i. refl) s 0 (covers s hs y))
 
   owes : (r : ℕ) (w : Words) (k : Forest) → Each Owes k → Owes r w k
   owes r w k h t z =
-      let ks = child-cost R (costs-of R k) in
-      let c = stream-cost R w (costs-of R k) in
+      let ks = child-cost R (costs-of R sc k) in
+      let c = stream-cost R w (costs-of R sc k) in
       let v = covers k h z in
       record { once = λ a. once-paid ks c (stream-most ks w) a w k t v; twice = twice-paid ks c (stream-most ks w) w k v }
 
   -- the cost of a record in a role, of what it and those below it may cost
-  pub cost-bound : (r : ℕ) (w : Words) (k : Forest) → T (suits w (words-of k)) → Shaped k → (a : Role) → cost-of R r w k a + g ≤ b w + budget b k
+  pub cost-bound : (r : ℕ) (w : Words) (k : Forest) → T (suits w (words-of k)) → Shaped k → (a : Role) → cost-of R sc r w k a + g ≤ b w + budget b k
   cost-bound r w k t z a = omega (arith, (owes r w k (each Owes owes k) t z) .once a)
 
   -- and of a function's own stream
-  pub stream-bound : (w : Words) (k : Forest) → 1 ≤ breadth k → Shaped k → stream-cost R w (costs-of R k) + g ≤ 3 * R .on-marker + budget b k
+  pub stream-bound : (w : Words) (k : Forest) → 1 ≤ breadth k → Shaped k → stream-cost R w (costs-of R sc k) + g ≤ 3 * R .on-marker + budget b k
   stream-bound w k n z =
-      let ks = child-cost R (costs-of R k) in
+      let ks = child-cost R (costs-of R sc k) in
       omega (arith, stream-most ks w, some-children A ks 0 k n (covers k (each Owes owes k) z))

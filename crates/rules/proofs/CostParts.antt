@@ -9,7 +9,7 @@ use Rattle.tables.specs.Record.{Words, is-kind, is-function}
 use Rattle.tables.specs.Forest.{Forest, none, tree, Nodes, bare, node, breadth, own-tree}
 use Rattle.pool.specs.Value.{str, child}
 use Rattle.rules.specs.Marker.{JumpPopIfNull, LoadConst, Code}
-use Rattle.rules.specs.Step.{Role, Expr, Target, Before, After, Step, put, jump, expr, visits, visits-down, stores-down, takes, says, width}
+use Rattle.rules.specs.Step.{Role, Expr, Target, Before, After, Step, push-const, jump, expr, visits, visits-down, stores-down, get-labels, push-ops, width}
 use Rattle.rules.specs.Arms.{block-from, arguments, property, safe-jump, registers, bodies, items-stored, unpacked}
 use Rattle.rules.specs.Run.{from-tree}
 use Rattle.rules.proofs.Shapes.{AllCases}
@@ -215,12 +215,12 @@ module _ {R : Rates} {b : Words → ℕ} {g : ℕ} (A : Afford R b g) (ks : Role
   stores-weigh zero is = omega arith
   stores-weigh (suc n) is = omega (arith, stores-weigh n is)
 
-  pub takes-weigh : (n : ℕ) (is : List Step) → W (takes n is) ≡ rep (R .on-label) n + W is
+  pub takes-weigh : (n : ℕ) (is : List Step) → W (get-labels n is) ≡ rep (R .on-label) n + W is
   unfolding weigh rep
   takes-weigh zero is = omega arith
   takes-weigh (suc n) is = omega (arith, takes-weigh n is)
 
-  pub says-weigh : (n : ℕ) (c : Code) (x : ℕ) (is : List Step) → W (says n c x is) ≡ rep (R .on-marker) n + W is
+  pub says-weigh : (n : ℕ) (c : Code) (x : ℕ) (is : List Step) → W (push-ops n c x is) ≡ rep (R .on-marker) n + W is
   unfolding weigh rep
   says-weigh zero c x is = omega arith
   says-weigh (suc n) c x is = omega (arith, says-weigh n c x is)
@@ -261,8 +261,8 @@ module _ {R : Rates} {b : Words → ℕ} {g : ℕ} (A : Afford R b g) (ks : Role
       let z = ks Expr 1 + (R .on-const + W is) in
       omega (
         arith,
-        either-weigh (eqb m 0) (expr 1 ∷ is) (cond (ltb m 3) (put LoadConst (1 ∷ []) (str (child k 1 .q)) ∷ is) is) 0 z (omega arith)
-            (either-weigh (ltb m 3) (put LoadConst (1 ∷ []) (str (child k 1 .q)) ∷ is) is 0 z (omega arith) (omega arith)),
+        either-weigh (eqb m 0) (expr 1 ∷ is) (cond (ltb m 3) (push-const LoadConst (1 ∷ []) (str (child k 1 .q)) ∷ is) is) 0 z (omega arith)
+            (either-weigh (ltb m 3) (push-const LoadConst (1 ∷ []) (str (child k 1 .q)) ∷ is) is 0 z (omega arith) (omega arith)),
       )
 
   pub safe-weigh : (w : Words) (is : List Step) → W (safe-jump w is) ≤ R .on-marker + W is

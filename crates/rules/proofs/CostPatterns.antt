@@ -9,7 +9,7 @@ use Rattle.tables.specs.Record.{Words, is-kind}
 use Rattle.tables.specs.Forest.{Nodes, bare, node}
 use Rattle.pool.specs.Value.{Value, Null, same, lit}
 use Rattle.rules.specs.Marker.{Jump, PopJumpIfFalse, JumpPopIfNull, LoadConst, Pop, Eq}
-use Rattle.rules.specs.Step.{Role, Path, Set, Step, say, put, take, jump, seek}
+use Rattle.rules.specs.Step.{Role, ChildPath, Set, Step, push-op, push-const, get-label, jump, access}
 use Rattle.rules.specs.Patterns.{
   Part,
   item,
@@ -112,15 +112,15 @@ module _ (R : Rates) (least : R .on-null ≤ R .on-const) where
 
     taking-weigh : (d h : ℕ) (is : List Step) → W (taking d h is) ≤ R .on-label + W is
     unfolding weigh
-    taking-weigh d h is = either-weigh (ltb (suc d) h) is (take ∷ is) (R .on-label + W is) (omega arith) (omega arith)
+    taking-weigh d h is = either-weigh (ltb (suc d) h) is (get-label ∷ is) (R .on-label + W is) (omega arith) (omega arith)
 
-    lead-weigh : (part : Part) (at : Path) (i : ℕ) (w : Words) (is : List Step) → W (lead part at i w is) ≤ R .on-const + (2 * R .on-marker + W is)
+    lead-weigh : (part : Part) (at : ChildPath) (i : ℕ) (w : Words) (is : List Step) → W (lead part at i w is) ≤ R .on-const + (2 * R .on-marker + W is)
     unfolding weigh
     lead-weigh item at i w is = omega arith
     lead-weigh key at i w is = omega (arith, value-most (lit (w .detail) (w .p) (w .q)))
     lead-weigh value at i w is = omega arith
 
-    table-weigh : (l : ℕ) (at : Path) (w : Words) (k : Nodes) (is : List Step) → W (table-test l at w k is) ≤ R .on-const + (7 * R .on-marker + W is)
+    table-weigh : (l : ℕ) (at : ChildPath) (w : Words) (k : Nodes) (is : List Step) → W (table-test l at w k is) ≤ R .on-const + (7 * R .on-marker + W is)
     unfolding weigh
     table-weigh l at w k is =
         omega (
@@ -128,19 +128,20 @@ module _ (R : Rates) (least : R .on-null ≤ R .on-const) where
           either-weigh (eqb (w .detail) 1) is (length-test l at w k is) (R .on-const + (4 * R .on-marker + W is)) (omega arith) (omega arith),
         )
 
-    pattern-weigh : (m d h : ℕ) (at : Path) (w : Words) (k : Nodes) (inside : List Step → List Step) (c : ℕ) (is : List Step)
+    pattern-weigh : (m d h : ℕ) (at : ChildPath) (w : Words) (k : Nodes) (inside : List Step → List Step) (c : ℕ) (is : List Step)
         → ((is : List Step) → W (inside is) ≤ c + W is) → W (pattern-steps m d h at w k inside is) ≤ R .on-label + (R .on-const + 8 * R .on-marker) + c + W is
     unfolding weigh
     pattern-weigh m d h at w k inside c is f =
-        let test = table-test (m + suc d) at w k (inside (say Pop 0 ∷ is)) in
-        let ident = jump JumpPopIfNull (m + d) ∷ seek Set at ∷ is in
-        let literal = put LoadConst at (lit (w .detail) (w .p) (w .q)) ∷ say Eq 0 ∷ jump PopJumpIfFalse (m + d) ∷ is in
+        let test = table-test (m + suc d) at w k (inside (push-op Pop 0 ∷ is)) in
+        let ident = jump JumpPopIfNull (m + d) ∷ access Set at ∷ is in
+        let literal = push-const LoadConst at (lit (w .detail) (w .p) (w .q)) ∷ push-op Eq 0 ∷ jump PopJumpIfFalse (m + d) ∷ is in
         let z = R .on-label + (R .on-const + 8 * R .on-marker) + c + W is in
         either-weigh (is-nested w) (taking d h test) (cond (is-kind 36 w) ident literal) z
-        (omega (arith, taking-weigh d h test, table-weigh (m + suc d) at w k (inside (say Pop 0 ∷ is)), f (say Pop 0 ∷ is)))
+        (omega (arith, taking-weigh d h test, table-weigh (m + suc d) at w k (inside (push-op Pop 0 ∷ is)), f (push-op Pop 0 ∷ is)))
         (either-weigh (is-kind 36 w) ident literal z (omega arith) (omega (arith, value-most (lit (w .detail) (w .p) (w .q)))))
 
-    inside-weigh : (f : Nodes) (part : Part) (m d h : ℕ) (at : Path) (i : ℕ) (is : List Step) → W (inside-steps part m d h at i f is) ≤ rep (node-rate R) (node-count f) + W is
+    inside-weigh : (f : Nodes) (part : Part) (m d h : ℕ) (at : ChildPath) (i : ℕ) (is : List Step) → W (inside-steps part m d h at i f is) ≤ rep (node-rate R)
+        (node-count f) + W is
     unfolding rep node-count
     inside-weigh bare part m d h at i is = omega arith
     inside-weigh (node w k s) part m d h at i is =
@@ -166,7 +167,7 @@ module _ (R : Rates) (least : R .on-null ≤ R .on-const) where
     cleanup-weigh (suc zero) m is = omega arith
     cleanup-weigh (suc (suc h)) m is = omega (arith, cleanup-weigh (suc h) m is)
 
-    test-weigh : (m i : ℕ) (at : Path) (w : Words) (k : Nodes) (is : List Step) → W (test-steps m i at w k is) ≤ rep (pattern-rate R) (suc (node-count k)) + W is
+    test-weigh : (m i : ℕ) (at : ChildPath) (w : Words) (k : Nodes) (is : List Step) → W (test-steps m i at w k is) ≤ rep (pattern-rate R) (suc (node-count k)) + W is
     unfolding weigh rep node-count
     test-weigh m i at w k is =
         let N = node-count k in
@@ -176,7 +177,7 @@ module _ (R : Rates) (least : R .on-null ≤ R .on-const) where
         let inside : List Step → List Step = λ is. inside-steps (parts w) m 1 (grown 0 1) at 0 k is in
         omega (
           arith,
-          pattern-weigh m 0 1 at w k inside (rep (node-rate R) N) (say Pop 0 ∷ jump Jump i ∷ cleanup m H is) (λ is. inside-weigh k (parts w) m 1 (grown 0 1) at 0 is),
+          pattern-weigh m 0 1 at w k inside (rep (node-rate R) N) (push-op Pop 0 ∷ jump Jump i ∷ cleanup m H is) (λ is. inside-weigh k (parts w) m 1 (grown 0 1) at 0 is),
           cleanup-weigh H m is,
           rep-more D H (suc (suc N)) (omega (arith, labels-most (node w k bare) item 0 1)),
           rep-both (node-rate R) D N,

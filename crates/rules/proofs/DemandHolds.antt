@@ -9,8 +9,9 @@ use Rattle.tables.specs.Forest.{children, root, own-tree}
 use Rattle.opcode.specs.Kinds.{operandKind}
 use Rattle.pool.specs.Value.{Const}
 use Rattle.pool.specs.Names.{Semantic, names}
+use Rattle.rules.specs.declared.StackCode.{StackCode}
 use Rattle.rules.specs.Marker.{Mark}
-use Rattle.rules.specs.Run.{Loop, Stream, Side, side, run}
+use Rattle.rules.specs.Run.{look, Loop, Stream, Side, side, run}
 use Rattle.rules.specs.Out.{consts, marker-words, stream-of}
 use Rattle.rules.specs.Counts.{labels-counted}
 use Rattle.rules.specs.Around.{Around}
@@ -55,12 +56,12 @@ pub record Sound (t : Semantic) (recs : List ℕ) (x : Stream) : Type 0 where
       → WithinFound (consts (x .marks)) (names t (x .number)) (operandKind (code (marker-words (consts (x .marks)) (x .marks) []) i))
       (operand (marker-words (consts (x .marks)) (x .marks) []) i)
 
-module _ (t : Semantic) (recs : List ℕ) (r : ℕ) where
+module _ (sc : StackCode) (t : Semantic) (recs : List ℕ) (r : ℕ) where
   abbrev xs : List Mark
-  xs = body-of t recs r .code 0 []
+  xs = body-of sc (look t) recs r .code 0 []
 
   abbrev log : List Loop
-  log = body-of t recs r .log 0
+  log = body-of sc (look t) recs r .log 0
 
   abbrev cs : List Const
   cs = consts (reverseAux xs [])
@@ -75,40 +76,40 @@ module _ (t : Semantic) (recs : List ℕ) (r : ℕ) where
   written : (i : ℕ) → record-of (getD (reverseAux (reverseAux xs []) []) i blank) ≡ record-of (getD xs i blank)
   written i = ap (λ (ms : List Mark). record-of (getD ms i blank)) (reverseAux-reverseAux-nil xs [])
 
-  is-right : Right (children recs r) log (body-of t recs r .count) xs
-  is-right = right t r (words recs r) (children recs r)
+  is-right : Right (children recs r) log (body-of sc (look t) recs r .count) xs
+  is-right = right sc (look t) r (words recs r) (children recs r)
 
   onto : (P : List ℕ → ℕ → Type 0) → P (words-of cs xs) (length xs) → P (marker-words cs (reverseAux xs []) []) (length (reverseAux xs []))
   onto P p = subst (λ (ws : List ℕ). P ws (length (reverseAux xs []))) (sym words-are) (subst (λ (n : ℕ). P (words-of cs xs) n) (sym size) p)
 
-  loops-right : Loops recs (stream-at t recs r) (words-of cs xs) (length xs)
+  loops-right : Loops recs (stream-at sc (look t) recs r) (words-of cs xs) (length xs)
   loops-right =
       record {
         breaks = λ i h e.
-            let z = break-loop cs (children recs r) log (body-of t recs r .count) xs is-right i h e in
+            let z = break-loop cs (children recs r) log (body-of sc (look t) recs r .count) xs is-right i h e in
             (z .0, z .1, subst (λ (q : ℕ). Around q (suc (z .0)) 0 (children recs r)) (sym (written i)) (z .2), z .3);
         continues = λ i h e.
-            let z = continue-loop cs (children recs r) log (body-of t recs r .count) xs is-right i h e in
+            let z = continue-loop cs (children recs r) log (body-of sc (look t) recs r .count) xs is-right i h e in
             (z .0, z .1, subst (λ (q : ℕ). Around q (suc (z .0)) 0 (children recs r)) (sym (written i)) (z .2), z .3);
-        continues-differ = continues-right cs (children recs r) log (body-of t recs r .count) xs is-right;
-        breaks-differ = breaks-right cs (children recs r) log (body-of t recs r .count) xs is-right;
+        continues-differ = continues-right cs (children recs r) log (body-of sc (look t) recs r .count) xs is-right;
+        breaks-differ = breaks-right cs (children recs r) log (body-of sc (look t) recs r .count) xs is-right;
       }
 
-  pub stream-sound : Sound t recs (stream-at t recs r)
+  pub stream-sound : Sound t recs (stream-at sc (look t) recs r)
   stream-sound =
       record {
-        labels = onto (λ ws n. Labels ws n (body-of t recs r .count)) (labels-right cs xs (children recs r) log (body-of t recs r .count) is-right);
-        loops = onto (λ ws n. Loops recs (stream-at t recs r) ws n) loops-right;
+        labels = onto (λ ws n. Labels ws n (body-of sc (look t) recs r .count)) (labels-right cs xs (children recs r) log (body-of sc (look t) recs r .count) is-right);
+        loops = onto (λ ws n. Loops recs (stream-at sc (look t) recs r) ws n) loops-right;
         constants = onto (λ ws n. Constants cs ws n) (constants-right xs);
         operands =
             onto (λ ws n. (i : ℕ) → i < n → WithinFound cs (names t (words recs r .p)) (operandKind (code ws i)) (operand ws i))
-            (operands-right (names t (words recs r .p)) xs (body-named t r (words recs r) (children recs r) 0 []));
+            (operands-right (names t (words recs r .p)) xs (body-named sc t r (words recs r) (children recs r) 0 []));
       }
 
 -- in tables that keep row 6: record 0 is a Function, and every record has the children of its kind
-module _ (t : Semantic) (recs : List ℕ) (rooted : words recs 0 .kind ≡ 30) (shaped : Shaped (root recs)) where
-  function-sound : (met f : ℕ) (x : Stream) → Sound t recs x → x .number ≡ f → AllKnown met (x .marks) → x .labels ≡ labels-counted (own-tree (children recs (x .at)))
-      → FunctionSound t recs met f x
+module _ (sc : StackCode) (t : Semantic) (recs : List ℕ) (rooted : words recs 0 .kind ≡ 30) (shaped : Shaped (root recs)) where
+  function-sound : (met f : ℕ) (x : Stream) → Sound t recs x → x .number ≡ f → AllKnown met (x .marks) → x .labels ≡ labels-counted sc (own-tree (children recs (x .at)))
+      → FunctionSound sc t recs met f x
   function-sound met f x s e k l =
       record {
         counted = l;
@@ -125,10 +126,10 @@ module _ (t : Semantic) (recs : List ℕ) (rooted : words recs 0 .kind ≡ 30) (
             };
       }
 
-  pub demand3 : Clean (run t recs) → Demand3 t recs (side (run t recs))
+  pub demand3 : Clean (run sc (look t) recs) → Demand3 sc t recs (side (run sc (look t) recs))
   demand3 c f h =
-      let e = side (run t recs) in
-      let a = run-stream t recs (λ x. Sound t recs x) (λ r n. stream-sound t recs r) rooted c f h in
-      let b = stream-found (λ x. AllKnown (e .met) (x .marks)) (e .streams) f (run-known t recs)
-      (omega (arith, run-numbered t recs f, inside-at 0 (e .met) f (omega arith) (omega arith))) in
-      function-sound (e .met) f (stream-of (e .streams) f) (a .0) (a .1) (b .0) (met-counted t recs rooted shaped c f h)
+      let e = side (run sc (look t) recs) in
+      let a = run-stream sc (look t) recs (λ x. Sound t recs x) (λ r n. stream-sound sc t recs r) rooted c f h in
+      let b = stream-found (λ x. AllKnown (e .met) (x .marks)) (e .streams) f (run-known sc (look t) recs)
+      (omega (arith, run-numbered sc (look t) recs f, inside-at 0 (e .met) f (omega arith) (omega arith))) in
+      function-sound (e .met) f (stream-of (e .streams) f) (a .0) (a .1) (b .0) (met-counted sc (look t) recs rooted shaped c f h)

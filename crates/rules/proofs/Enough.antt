@@ -10,14 +10,37 @@ use lib.Dec.{T, eqb}
 use Rattle.tables.specs.Record.{Words, words, is-do, is-loop}
 use Rattle.tables.specs.Forest.{Forest, none, tree, children, root, levels, own-tree}
 use Rattle.tables.proofs.ForestLaws.{Each, each, and-l, and-r}
-use Rattle.pool.specs.Names.{Semantic, Access, local, global, upvalue, missing}
+use Rattle.pool.specs.Names.{Access, local, global, upvalue, missing}
+use Rattle.rules.specs.declared.StackCode.{StackCode}
 use Rattle.rules.specs.Marker.{Way, Mark}
-use Rattle.rules.specs.Step.{Role, Keep, pass, keep, Use, Step, say, put, take, place, jump, back, visit, enter, leave, exit, bar, seek, stop, inner}
+use Rattle.rules.specs.Step.{
+  Role,
+  Keep,
+  pass,
+  keep,
+  Use,
+  Step,
+  push-op,
+  push-const,
+  get-label,
+  place,
+  jump,
+  jump-back,
+  visit,
+  begin-loop,
+  end-loop,
+  exit,
+  check-return,
+  access,
+  refuse,
+  inner,
+}
 use Rattle.rules.specs.Arms.{stream-steps}
 use Rattle.rules.specs.Kinds.{steps}
 use Rattle.rules.specs.declared.Flow.{Flow}
 use Rattle.rules.specs.declared.Flow.the-variants.{Go, Cut, Refused}
 use Rattle.rules.specs.Run.{
+  Lookup,
   Loop,
   loop,
   Side,
@@ -39,7 +62,6 @@ use Rattle.rules.specs.Run.{
   barred,
   number-of,
   spot-at,
-  look,
   sought,
   settle,
   kept,
@@ -71,8 +93,8 @@ use Rattle.rules.proofs.Alone.{Runs, streams, Is-alone, run-alone}
 use Rattle.rules.proofs.Stack.{newest}
 
 -- every open loop is kept
-abbrev pub every : Bool → Mode
-every b = record { nest = b; trim = λ ls. ls }
+abbrev pub every : StackCode → Bool → Mode
+every sc b = record { code = sc; nest = b; trim = λ ls. ls }
 
 -- two states that are the same but for the open loops, of which the newest i are the same
 pub data SameTop (i : ℕ) : State → State → Type 0 where
@@ -192,25 +214,26 @@ depth-some outside i p = p
 depth-some (within c b) i p = omega arith
 
 -- the labels' names do not depend on the mode or on the visits
-same-named : (t : Semantic) (o o′ : Mode) (fn : Words) (r : ℕ) (w : Words) (k : Forest) (vs vs′ : Role → ℕ → State → State) (body body′ : State → State)
+same-named : (t : Lookup) (o o′ : Mode) (fn : Words) (r : ℕ) (w : Words) (k : Forest) (vs vs′ : Role → ℕ → State → State) (body body′ : State → State)
     → (x : Step) (env : List ℕ) (l : ℕ) → named t o fn r w k vs body x env l ≡ named t o′ fn r w k vs′ body′ x env l
-same-named t o o′ fn r w k vs vs′ body body′ (say c x) env l = refl
-same-named t o o′ fn r w k vs vs′ body body′ (put c p v) env l = refl
-same-named t o o′ fn r w k vs vs′ body body′ take env l = refl
+same-named t o o′ fn r w k vs vs′ body body′ (push-op c x) env l = refl
+same-named t o o′ fn r w k vs vs′ body body′ (push-const c p v) env l = refl
+same-named t o o′ fn r w k vs vs′ body body′ get-label env l = refl
 same-named t o o′ fn r w k vs vs′ body body′ (place i) env l = refl
 same-named t o o′ fn r w k vs vs′ body body′ (jump h i) env l = refl
-same-named t o o′ fn r w k vs vs′ body body′ (back i) env l = refl
+same-named t o o′ fn r w k vs vs′ body body′ (jump-back i) env l = refl
 same-named t o o′ fn r w k vs vs′ body body′ (visit y a j) env l = refl
-same-named t o o′ fn r w k vs vs′ body body′ (enter i j) env l = refl
-same-named t o o′ fn r w k vs vs′ body body′ leave env l = refl
+same-named t o o′ fn r w k vs vs′ body body′ (begin-loop i j) env l = refl
+same-named t o o′ fn r w k vs vs′ body body′ end-loop env l = refl
 same-named t o o′ fn r w k vs vs′ body body′ (exit x) env l = refl
-same-named t o o′ fn r w k vs vs′ body body′ bar env l = refl
-same-named t o o′ fn r w k vs vs′ body body′ (seek u p) env l = refl
-same-named t o o′ fn r w k vs vs′ body body′ (stop x) env l = refl
+same-named t o o′ fn r w k vs vs′ body body′ check-return env l = refl
+same-named t o o′ fn r w k vs vs′ body body′ (access u p) env l = refl
+same-named t o o′ fn r w k vs vs′ body body′ (refuse x) env l = refl
 same-named t o o′ fn r w k vs vs′ body body′ inner env l = refl
 
 -- one record: the newest i loops are the same around it, and there is room for its own; b: the functions inside are run too
-module _ (t : Semantic) (b : Bool) (n : ℕ) (fn : Words) (r : ℕ) (w : Words) (k : Forest) (vs vs′ : Role → ℕ → State → State) (body body′ : State → State) (a : Bool) (i : ℕ)
+module _ (sc : StackCode) (t : Lookup) (b : Bool) (n : ℕ) (fn : Words) (r : ℕ) (w : Words) (k : Forest) (vs vs′ : Role → ℕ → State → State) (body body′ : State →
+    State) (a : Bool) (i : ℕ)
     (some : 1 ≤ i) (room : depth-at a i ≤ n) (sticky : (x : Role) (j : ℕ) → Sticky (vs x j)) (sticky′ : (x : Role) (j : ℕ) → Sticky (vs′ x j))
     (child-alike : (x : Role) (j : ℕ) → Alike (depth-at a i) (vs x j) (vs′ x j)) (body-alike : Alike 1 body body′) where
   child-in : (lp : Inside) → T (settled a lp) → (x : Role) (j : ℕ) → Alike (depth-in lp i) (vs x j) (vs′ x j)
@@ -218,78 +241,78 @@ module _ (t : Semantic) (b : Bool) (n : ℕ) (fn : Words) (r : ℕ) (w : Words) 
 
   act-alike : (x : Step) (env : List ℕ) (m : List Mark) (l : ℕ) (ls ls′ os : List Loop) (e : Side) (c : ℕ) (pend done free : List ℕ) (lp : Inside)
       → T (fits a (chk c pend done free lp) x) → front (depth-in lp i) ls ≡ front (depth-in lp i) ls′
-      → SameTop (depth-in (inside-of (next (chk c pend done free lp) x)) i) (act t (every b) fn r w k vs body x env (st m l ls os Go e))
-      (act t (newest b n) fn r w k vs′ body′ x env (st m l ls′ os Go e))
+      → SameTop (depth-in (inside-of (next (chk c pend done free lp) x)) i) (act t (every sc b) fn r w k vs body x env (st m l ls os Go e))
+      (act t (newest sc b n) fn r w k vs′ body′ x env (st m l ls′ os Go e))
   unfolding emit bump halt begin finish outward
-  act-alike (say y x) env m l ls ls′ os e c pend done free lp z q = same-top _ _ _ _ _ _ _ q
-  act-alike (put y p v) env m l ls ls′ os e c pend done free lp z q = same-top _ _ _ _ _ _ _ q
-  act-alike take env m l ls ls′ os e c pend done free lp z q = same-top _ _ _ _ _ _ _ q
+  act-alike (push-op y x) env m l ls ls′ os e c pend done free lp z q = same-top _ _ _ _ _ _ _ q
+  act-alike (push-const y p v) env m l ls ls′ os e c pend done free lp z q = same-top _ _ _ _ _ _ _ q
+  act-alike get-label env m l ls ls′ os e c pend done free lp z q = same-top _ _ _ _ _ _ _ q
   act-alike (place j) env m l ls ls′ os e c pend done free lp z q = same-top _ _ _ _ _ _ _ q
   act-alike (jump h j) env m l ls ls′ os e c pend done free lp z q = same-top _ _ _ _ _ _ _ q
-  act-alike (back j) env m l ls ls′ os e c pend done free lp z q = same-top _ _ _ _ _ _ _ q
+  act-alike (jump-back j) env m l ls ls′ os e c pend done free lp z q = same-top _ _ _ _ _ _ _ q
   act-alike (visit y x j) env m l ls ls′ os e c pend done free lp z q =
       keeping-alike (depth-in lp i) y (vs x j) (vs′ x j) (child-in lp (and-r (sound-at pend done lp) _ z) x j) _ _ (same-top m l ls ls′ os Go e q)
-  act-alike (enter p j) env m l ls ls′ os e c pend done free (within p′ j′) z q = absurd z
-  act-alike (enter p j) env m l ls ls′ os e c pend done free outside z q =
+  act-alike (begin-loop p j) env m l ls ls′ os e c pend done free (within p′ j′) z q = absurd z
+  act-alike (begin-loop p j) env m l ls ls′ os e c pend done free outside z q =
       same-top _ _ _ _ _ _ _ (top-pushed n i (loop r (getD env p 0) (getD env j 0)) ls ls′ (loop-room a (and-l a _ z) room) q)
     where
       loop-room : (a : Bool) → T a → depth-at a i ≤ n → suc i ≤ n
       loop-room true z h = h
       loop-room false z h = absurd z
-  act-alike leave env m l ls ls′ os e c pend done free outside z q = absurd z
-  act-alike leave env m l ls ls′ os e c pend done free (within p j) z q = same-top _ _ _ _ _ _ _ (top-dropped i ls ls′ q)
+  act-alike end-loop env m l ls ls′ os e c pend done free outside z q = absurd z
+  act-alike end-loop env m l ls ls′ os e c pend done free (within p j) z q = same-top _ _ _ _ _ _ _ (top-dropped i ls ls′ q)
   act-alike (exit x) env m l ls ls′ os e c pend done free lp z q =
       way-alike (depth-in lp i) r w x ls ls′ (depth-some lp i some) q _ _ (same-top m l ls ls′ os Go e q)
-  act-alike bar env m l ls ls′ os e c pend done free lp z q = barred-alike (depth-in lp i) w (is-do fn) _ _ (same-top m l ls ls′ os Go e q)
-  act-alike (seek u p) env m l ls ls′ os e c pend done free lp z q =
-      sought-alike (depth-in lp i) r u (number-of (spot-at (tree r w k none) p)) (look t fn u (spot-at (tree r w k none) p)) _ _ (same-top m l ls ls′ os Go e q)
-  act-alike (stop x) env m l ls ls′ os e c pend done free lp z q = same-top _ _ _ _ _ _ _ q
+  act-alike check-return env m l ls ls′ os e c pend done free lp z q = barred-alike (depth-in lp i) w (is-do fn) _ _ (same-top m l ls ls′ os Go e q)
+  act-alike (access u p) env m l ls ls′ os e c pend done free lp z q =
+      sought-alike (depth-in lp i) r u (number-of (spot-at (tree r w k none) p)) (t fn u (spot-at (tree r w k none) p)) _ _ (same-top m l ls ls′ os Go e q)
+  act-alike (refuse x) env m l ls ls′ os e c pend done free lp z q = same-top _ _ _ _ _ _ _ q
   act-alike inner env m l ls ls′ os e c pend done free lp z q = nested-alike (depth-in lp i) b r w body body′ body-alike _ _ (same-top m l ls ls′ os Go e q)
 
   -- where the run does not go on, nothing is opened or left
   ended-alike : (is : List Step) (env : List ℕ) (lp : Inside) (s u : State) → Ended (flow s) → Ended (flow u) → SameTop (depth-in lp i) s u
-      → SameTop i (exec t (every b) fn r w k vs body is env s) (exec t (newest b n) fn r w k vs′ body′ is env u)
+      → SameTop i (exec t (every sc b) fn r w k vs body is env s) (exec t (newest sc b n) fn r w k vs′ body′ is env u)
   ended-alike is env lp s u h h′ c =
-      subst (λ (z : State). SameTop i z (exec t (newest b n) fn r w k vs′ body′ is env u)) (sym (exec-sticky t (every b) fn r w k vs body sticky is env s h))
-      (subst (λ (z : State). SameTop i s z) (sym (exec-sticky t (newest b n) fn r w k vs′ body′ sticky′ is env u h′)) (depth-fewer lp i s u c))
+      subst (λ (z : State). SameTop i z (exec t (newest sc b n) fn r w k vs′ body′ is env u)) (sym (exec-sticky t (every sc b) fn r w k vs body sticky is env s h))
+      (subst (λ (z : State). SameTop i s z) (sym (exec-sticky t (newest sc b n) fn r w k vs′ body′ sticky′ is env u h′)) (depth-fewer lp i s u c))
 
   exec-alike : (is : List Step) (env : List ℕ) (s u : State) (d : Chk) → T (ok a d is) → SameTop (depth-in (inside-of d) i) s u
-      → SameTop i (exec t (every b) fn r w k vs body is env s) (exec t (newest b n) fn r w k vs′ body′ is env u)
+      → SameTop i (exec t (every sc b) fn r w k vs body is env s) (exec t (newest sc b n) fn r w k vs′ body′ is env u)
   unfolding exec ok
   exec-alike [] env s u d z c = depth-fewer (inside-of d) i s u c
   exec-alike (x ∷ is) env s u (chk c pend done free lp) z (same-top m l ls ls′ os Go e q) =
       let d = chk c pend done free lp in
-      let env′ = named t (every b) fn r w k vs body x env l in
-      let s′ = act t (every b) fn r w k vs body x env (st m l ls os Go e) in
-      let u′ = act t (newest b n) fn r w k vs′ body′ x env (st m l ls′ os Go e) in
-      subst (λ (y : List ℕ). SameTop i (exec t (every b) fn r w k vs body is env′ s′) (exec t (newest b n) fn r w k vs′ body′ is y u′))
-      (same-named t (every b) (newest b n) fn r w k vs vs′ body body′ x env l)
+      let env′ = named t (every sc b) fn r w k vs body x env l in
+      let s′ = act t (every sc b) fn r w k vs body x env (st m l ls os Go e) in
+      let u′ = act t (newest sc b n) fn r w k vs′ body′ x env (st m l ls′ os Go e) in
+      subst (λ (y : List ℕ). SameTop i (exec t (every sc b) fn r w k vs body is env′ s′) (exec t (newest sc b n) fn r w k vs′ body′ is y u′))
+      (same-named t (every sc b) (newest sc b n) fn r w k vs vs′ body body′ x env l)
       (exec-alike is env′ s′ u′ (next d x) (and-r (fits a d x) _ z) (act-alike x env m l ls ls′ os e c pend done free lp (and-l (fits a d x) _ z) q))
   exec-alike (x ∷ is) env s u (chk c pend done free lp) z (same-top m l ls ls′ os (Cut y p v) e q) =
       ended-alike (x ∷ is) env lp (st m l ls os (Cut y p v) e) (st m l ls′ os (Cut y p v) e) tt tt (same-top _ _ _ _ _ _ _ q)
   exec-alike (x ∷ is) env s u (chk c pend done free lp) z (same-top m l ls ls′ os (Refused y p) e q) =
       ended-alike (x ∷ is) env lp (st m l ls os (Refused y p) e) (st m l ls′ os (Refused y p) e) tt tt (same-top _ _ _ _ _ _ _ q)
 
-  pub steps-alike : (is : List Step) → Pass a is → Alike i (exec t (every b) fn r w k vs body is []) (exec t (newest b n) fn r w k vs′ body′ is [])
+  pub steps-alike : (is : List Step) → Pass a is → Alike i (exec t (every sc b) fn r w k vs body is []) (exec t (newest sc b n) fn r w k vs′ body′ is [])
   steps-alike is z s u c = exec-alike is [] s u begun z c
 
-module _ (t : Semantic) (b : Bool) (n : ℕ) where
+module _ (sc : StackCode) (t : Lookup) (b : Bool) (n : ℕ) where
   -- as many levels below as there is room for
   abbrev Fit : ℕ → Words → Forest → Type 0
-  Fit r w k = (i : ℕ) → 1 ≤ i → i + suc (levels k) ≤ n → (a : Role) (fn : Words) → Alike i (visit-of t (every b) r w k a fn) (visit-of t (newest b n) r w k a fn)
+  Fit r w k = (i : ℕ) → 1 ≤ i → i + suc (levels k) ≤ n → (a : Role) (fn : Words) → Alike i (visit-of t (every sc b) r w k a fn) (visit-of t (newest sc b n) r w k a fn)
 
   children-fit : (k : Forest) → Each Fit k → (i : ℕ) → 1 ≤ i → i + levels k ≤ n → (fn : Words) (a : Role) (j : ℕ)
-      → Alike i (child-visit (visits-of t (every b) k) fn a j) (child-visit (visits-of t (newest b n) k) fn a j)
+      → Alike i (child-visit (visits-of t (every sc b) k) fn a j) (child-visit (visits-of t (newest sc b n) k) fn a j)
   children-fit none h i p g fn a j = λ s u c. c
   children-fit (tree r w k s) (h, hs) i p g fn a zero = h i p (omega arith) a fn
   children-fit (tree r w k s) (h, hs) i p g fn a (suc j) = children-fit s hs i p (omega arith) fn a j
 
   stream-fit : (r : ℕ) (w : Words) (k : Forest) → Each Fit k → 1 + levels k ≤ n
-      → Alike 1 (stream t (every b) r w k (visits-of t (every b) k)) (stream t (newest b n) r w k (visits-of t (newest b n) k))
+      → Alike 1 (stream t (every sc b) r w k (visits-of t (every sc b) k)) (stream t (newest sc b n) r w k (visits-of t (newest sc b n) k))
   unfolding stream
   stream-fit r w k h g =
-      steps-alike t b n w r w k (child-visit (visits-of t (every b) k) w) (child-visit (visits-of t (newest b n) k) w) idle idle false 1 (omega arith) (omega arith)
-      (visits-sticky t (every b) k w) (visits-sticky t (newest b n) k w) (children-fit k h 1 (omega arith) g w) (λ s u c. c) (stream-steps w) (stream-ok w)
+      steps-alike sc t b n w r w k (child-visit (visits-of t (every sc b) k) w) (child-visit (visits-of t (newest sc b n) k) w) idle idle false 1 (omega arith) (omega arith)
+      (visits-sticky t (every sc b) k w) (visits-sticky t (newest sc b n) k w) (children-fit k h 1 (omega arith) g w) (λ s u c. c) (stream-steps w) (stream-ok w)
 
   room-below : (a : Bool) (i d : ℕ) → i + suc d ≤ n → depth-at a i + d ≤ n
   room-below true i d g = omega arith
@@ -302,18 +325,20 @@ module _ (t : Semantic) (b : Bool) (n : ℕ) where
   fit-step : (r : ℕ) (w : Words) (k : Forest) → Each Fit k → Fit r w k
   fit-step r w k h i p g a fn =
       let c = room-below (is-loop w) i (levels k) g in
-      steps-alike t b n fn r w k (child-visit (visits-of t (every b) k) fn) (child-visit (visits-of t (newest b n) k) fn) (stream t (every b) r w k (visits-of t (every b) k))
-      (stream t (newest b n) r w k (visits-of t (newest b n) k)) (is-loop w) i p (omega (arith, c)) (visits-sticky t (every b) k fn) (visits-sticky t (newest b n) k fn)
-      (children-fit k h (depth-at (is-loop w) i) (level-some (is-loop w) i p) c fn) (stream-fit r w k h (omega arith)) (steps a w (own-tree k)) (steps-ok a w (own-tree k))
+      steps-alike sc t b n fn r w k (child-visit (visits-of t (every sc b) k) fn) (child-visit (visits-of t (newest sc b n) k) fn) (stream t (every sc b) r w k
+      (visits-of t (every sc b) k))
+      (stream t (newest sc b n) r w k (visits-of t (newest sc b n) k)) (is-loop w) i p (omega (arith, c)) (visits-sticky t (every sc b) k fn) (visits-sticky t (newest
+      sc b n) k fn)
+      (children-fit k h (depth-at (is-loop w) i) (level-some (is-loop w) i p) c fn) (stream-fit r w k h (omega arith)) (steps sc a w (own-tree k)) (steps-ok sc a w (own-tree k))
 
   -- a record's visit, with room for the newest i loops around it and one for each level below
   pub visit-enough : (r : ℕ) (w : Words) (k : Forest) (i : ℕ) → 1 ≤ i → i + suc (levels k) ≤ n → (a : Role) (fn : Words)
-      → Alike i (visit-of t (every b) r w k a fn) (visit-of t (newest b n) r w k a fn)
+      → Alike i (visit-of t (every sc b) r w k a fn) (visit-of t (newest sc b n) r w k a fn)
   visit-enough r w k = fit-step r w k (each Fit fit-step k)
 
   -- a function's own stream
   pub stream-enough : (r : ℕ) (w : Words) (k : Forest) → levels (tree r w k none) ≤ n
-      → Alike 1 (stream t (every b) r w k (visits-of t (every b) k)) (stream t (newest b n) r w k (visits-of t (newest b n) k))
+      → Alike 1 (stream t (every sc b) r w k (visits-of t (every sc b) k)) (stream t (newest sc b n) r w k (visits-of t (newest sc b n) k))
   stream-enough r w k g = stream-fit r w k (each Fit fit-step k) (omega arith)
 
 -- the open loops apart, all is the same
@@ -339,28 +364,32 @@ nested-same true r w v v′ h (st m l ls os (Cut k a b) e) = refl
 nested-same true r w v v′ h (st m l ls os (Refused x q) e) = refl
 
 -- a function with at most n levels, run where it stands: the whole state is the same, from any state
-pub function-enough : (t : Semantic) (b : Bool) (n r : ℕ) (w : Words) (k : Forest) → levels (tree r w k none) ≤ n → (s : State)
-    → function-run t (newest b n) r w k s ≡ function-run t (every b) r w k s
-function-enough t b n r w k g s = sym (nested-same true r w _ _ (stream-enough t b n r w k g) s)
+pub function-enough : (sc : StackCode) (t : Lookup) (b : Bool) (n r : ℕ) (w : Words) (k : Forest) → levels (tree r w k none) ≤ n → (s : State)
+    → function-run t (newest sc b n) r w k s ≡ function-run t (every sc b) r w k s
+function-enough sc t b n r w k g s = sym (nested-same true r w _ _ (stream-enough sc t b n r w k g) s)
 
 -- a tree of at most n levels: the run that keeps the newest n open loops is the run that keeps all
-pub run-enough : (t : Semantic) (recs : List ℕ) (n : ℕ) → levels (root recs) ≤ n → function-run t (newest true n) 0 (words recs 0) (children recs 0) nothing ≡ run t recs
+pub run-enough : (sc : StackCode) (t : Lookup) (recs : List ℕ) (n : ℕ) → levels (root recs) ≤ n → function-run t (newest sc true n) 0 (words recs 0) (children recs 0)
+    nothing ≡ run sc t recs
 unfolding run
-run-enough t recs n g = function-enough t true n 0 (words recs 0) (children recs 0) g nothing
+run-enough sc t recs n g = function-enough sc t true n 0 (words recs 0) (children recs 0) g nothing
 
 -- and so is a function walked alone, but for the loops still open
-pub alone-top : (t : Semantic) (n r : ℕ) (w : Words) (k : Forest) → levels (tree r w k none) ≤ n → SameTop 1 (alone t (every false) r w k) (alone t (newest false n) r w k)
+pub alone-top : (sc : StackCode) (t : Lookup) (n r : ℕ) (w : Words) (k : Forest) → levels (tree r w k none) ≤ n → SameTop 1 (alone t (every sc false) r w k) (alone t
+    (newest sc false n) r w k)
 unfolding alone
-alone-top t n r w k g = stream-enough t false n r w k g _ _ (same-top _ _ _ _ _ _ _ refl)
+alone-top sc t n r w k g = stream-enough sc t false n r w k g _ _ (same-top _ _ _ _ _ _ _ refl)
 
-pub alone-enough : (t : Semantic) (n r : ℕ) (w : Words) (k : Forest) → levels (tree r w k none) ≤ n
-    → (marks (alone t (every false) r w k) ≡ marks (alone t (newest false n) r w k)) × (labels (alone t (every false) r w k) ≡ labels (alone t (newest false n) r w k))
-    × (opened (alone t (every false) r w k) ≡ opened (alone t (newest false n) r w k)) × (flow (alone t (every false) r w k) ≡ flow (alone t (newest false n) r w k))
-    × (side (alone t (every false) r w k) ≡ side (alone t (newest false n) r w k))
-alone-enough t n r w k g = same-parts 1 (alone t (every false) r w k) (alone t (newest false n) r w k) (alone-top t n r w k g)
+pub alone-enough : (sc : StackCode) (t : Lookup) (n r : ℕ) (w : Words) (k : Forest) → levels (tree r w k none) ≤ n
+    → (marks (alone t (every sc false) r w k) ≡ marks (alone t (newest sc false n) r w k)) × (labels (alone t (every sc false) r w k) ≡ labels (alone t (newest sc
+    false n) r w k))
+    × (opened (alone t (every sc false) r w k) ≡ opened (alone t (newest sc false n) r w k)) × (flow (alone t (every sc false) r w k) ≡ flow (alone t (newest sc false n) r w k))
+    × (side (alone t (every sc false) r w k) ≡ side (alone t (newest sc false n) r w k))
+alone-enough sc t n r w k g = same-parts 1 (alone t (every sc false) r w k) (alone t (newest sc false n) r w k) (alone-top sc t n r w k g)
 
 -- each finished stream of the run is that of its function walked alone with the newest n open loops kept
-pub run-alone-enough : (t : Semantic) (recs : List ℕ) (n : ℕ) → levels (root recs) ≤ n → Runs (flow (run t recs)) → Every (Is-alone t (front n) recs) (streams (run t recs))
-run-alone-enough t recs n g c =
-    let e = run-enough t recs n g in
-    subst (λ (s : State). Every (Is-alone t (front n) recs) (streams s)) e (run-alone t (front n) recs (subst (λ (s : State). Runs (flow s)) (sym e) c))
+pub run-alone-enough : (sc : StackCode) (t : Lookup) (recs : List ℕ) (n : ℕ) → levels (root recs) ≤ n → Runs (flow (run sc t recs)) → Every (Is-alone sc t (front n)
+    recs) (streams (run sc t recs))
+run-alone-enough sc t recs n g c =
+    let e = run-enough sc t recs n g in
+    subst (λ (s : State). Every (Is-alone sc t (front n) recs) (streams s)) e (run-alone sc t (front n) recs (subst (λ (s : State). Runs (flow s)) (sym e) c))

@@ -10,8 +10,9 @@ use lib.Dec.{T, eqb, eqb→eq, not-T, T-not}
 use Rattle.tables.specs.Record.{Words, words, is-do}
 use Rattle.tables.specs.Forest.{Forest, none, tree, children, own-tree}
 use Rattle.tables.proofs.ForestLaws.{and-l, and-r, Each, each, each-at}
-use Rattle.pool.specs.Names.{Semantic, Access, local, global, upvalue, missing}
+use Rattle.pool.specs.Names.{Access, local, global, upvalue, missing}
 use Rattle.pool.specs.Value.{Value, plain, effect, function}
+use Rattle.rules.specs.declared.StackCode.{StackCode}
 use Rattle.rules.specs.Marker.{Way, Code, Pop, Call, LoadUpvalue, LoadLocals, Return, LoadConst, Op, Label, To, Back, Leave, Load, Do, Mark, mark}
 use Rattle.rules.specs.Step.{
   Role,
@@ -21,19 +22,19 @@ use Rattle.rules.specs.Step.{
   keep,
   Use,
   Step,
-  say,
-  put,
-  take,
+  push-op,
+  push-const,
+  get-label,
   place,
   jump,
-  back,
+  jump-back,
   visit,
-  enter,
-  leave,
+  begin-loop,
+  end-loop,
   exit,
-  bar,
-  seek,
-  stop,
+  check-return,
+  access,
+  refuse,
   inner,
   expr,
   load,
@@ -41,6 +42,7 @@ use Rattle.rules.specs.Step.{
 use Rattle.rules.specs.Arms.{function-steps, stream-steps}
 use Rattle.rules.specs.Kinds.{steps}
 use Rattle.rules.specs.Run.{
+  Lookup,
   Loop,
   loop,
   way-kind,
@@ -88,12 +90,12 @@ use Rattle.rules.specs.Run.{
   run,
   spot-at,
   number-of,
-  look,
 }
 use Rattle.rules.specs.declared.Flow.{Flow}
 use Rattle.rules.specs.declared.Flow.the-variants.{Go, Cut, Refused}
 use Rattle.rules.proofs.StepsOk.{function-only}
-use Rattle.rules.proofs.Pure.{no-function, no-name, pure, steps-pure}
+use Rattle.rules.proofs.Tame.{no-function, no-name, pure}
+use Rattle.rules.proofs.Pure.{steps-pure}
 use Rattle.rules.proofs.Visits.{visit-of}
 use Rattle.rules.proofs.Numbers.{Every}
 
@@ -310,98 +312,102 @@ and-one : (b : Bool) → T b → T (b && true)
 and-one true u = tt
 and-one false u = u
 
-module _ (t : Semantic) (fn : Words) (r : ℕ) (w : Words) (k : Forest) (vs : Role → ℕ → State → State) (body : State → State) (keeps : (a : Role) (j : ℕ) → Keeps (vs a j))
+module _ (sc : StackCode) (t : Lookup) (fn : Words) (r : ℕ) (w : Words) (k : Forest) (vs : Role → ℕ → State → State) (body : State → State) (keeps : (a : Role) (j : ℕ)
+    → Keeps (vs a j))
     (inside : Keeps body) where
-  act-keeps : (x : Step) (env : List ℕ) → T (pure (x ∷ [])) → Keeps (act t full fn r w k vs body x env)
+  act-keeps : (x : Step) (env : List ℕ) → T (pure (x ∷ [])) → Keeps (act t (full sc) fn r w k vs body x env)
   unfolding pure
-  act-keeps (say c x) env q = emit-keeps (mark r (Do c x)) (λ n. tt)
-  act-keeps (put c p v) env q =
+  act-keeps (push-op c x) env q = emit-keeps (mark r (Do c x)) (λ n. tt)
+  act-keeps (push-const c p v) env q =
       emit-keeps (mark (number-of (spot-at (tree r w k none) p)) (Load c v)) (λ n. no-known n v (and-l (no-function v) true q))
-  act-keeps take env q = still-keeps bump bump-still
+  act-keeps get-label env q = still-keeps bump bump-still
   act-keeps (place i) env q = emit-keeps (mark r (Label (getD env i 0))) (λ n. tt)
   act-keeps (jump h i) env q = emit-keeps (mark r (To h (getD env i 0))) (λ n. tt)
-  act-keeps (back i) env q = emit-keeps (mark r (Back (getD env i 0))) (λ n. tt)
+  act-keeps (jump-back i) env q = emit-keeps (mark r (Back (getD env i 0))) (λ n. tt)
   act-keeps (visit pass a j) env q = keeps a j
   act-keeps (visit keep a j) env q = kept-keeps (vs a j) (keeps a j)
-  act-keeps (enter i j) env q = let x = loop r (getD env i 0) (getD env j 0) in still-keeps (begin (λ ls. ls) x) (begin-still (λ ls. ls) x)
-  act-keeps leave env q = still-keeps finish finish-still
+  act-keeps (begin-loop i j) env q = let x = loop r (getD env i 0) (getD env j 0) in still-keeps (begin (λ ls. ls) x) (begin-still (λ ls. ls) x)
+  act-keeps end-loop env q = still-keeps finish finish-still
   act-keeps (exit x) env q = out-keeps r w x
-  act-keeps bar env q = barred-keeps w (is-do fn)
-  act-keeps (seek u p) env q = sought-keeps r u (number-of (spot-at (tree r w k none) p)) (look t fn u (spot-at (tree r w k none) p))
-  act-keeps (stop x) env q = still-keeps (halt (Refused x r)) (halt-still (Refused x r))
+  act-keeps check-return env q = barred-keeps w (is-do fn)
+  act-keeps (access u p) env q = sought-keeps r u (number-of (spot-at (tree r w k none) p)) (t fn u (spot-at (tree r w k none) p))
+  act-keeps (refuse x) env q = still-keeps (halt (Refused x r)) (halt-still (Refused x r))
   act-keeps inner env q = absurd q
 
   -- the first step of a list, and the others
   first-pure : (x : Step) (is : List Step) → T (pure (x ∷ is)) → T (pure (x ∷ [])) × T (pure is)
   unfolding pure
-  first-pure (say c x) is q = (and-one (no-name c) (and-l (no-name c) (pure is) q), and-r (no-name c) (pure is) q)
-  first-pure (put c p v) is q = (and-one (no-function v) (and-l (no-function v) (pure is) q), and-r (no-function v) (pure is) q)
-  first-pure take is q = (tt, q)
+  first-pure (push-op c x) is q = (and-one (no-name c) (and-l (no-name c) (pure is) q), and-r (no-name c) (pure is) q)
+  first-pure (push-const c p v) is q = (and-one (no-function v) (and-l (no-function v) (pure is) q), and-r (no-function v) (pure is) q)
+  first-pure get-label is q = (tt, q)
   first-pure (place i) is q = (tt, q)
   first-pure (jump h i) is q = (tt, q)
-  first-pure (back i) is q = (tt, q)
+  first-pure (jump-back i) is q = (tt, q)
   first-pure (visit y a j) is q = (tt, q)
-  first-pure (enter i j) is q = (tt, q)
-  first-pure leave is q = (tt, q)
+  first-pure (begin-loop i j) is q = (tt, q)
+  first-pure end-loop is q = (tt, q)
   first-pure (exit x) is q = (tt, q)
-  first-pure bar is q = (tt, q)
-  first-pure (seek u p) is q = (tt, q)
-  first-pure (stop x) is q = (tt, q)
+  first-pure check-return is q = (tt, q)
+  first-pure (access u p) is q = (tt, q)
+  first-pure (refuse x) is q = (tt, q)
   first-pure inner is q = absurd q
 
-  exec-keeps : (is : List Step) (env : List ℕ) → T (pure is) → Keeps (exec t full fn r w k vs body is env)
+  exec-keeps : (is : List Step) (env : List ℕ) → T (pure is) → Keeps (exec t (full sc) fn r w k vs body is env)
   unfolding exec
   exec-keeps [] env q = record { holds = λ s h. h; more = λ s. omega arith }
   exec-keeps (x ∷ is) env q =
       let p = first-pure x is q in
-      let go : (s : State) → Keeps (exec t full fn r w k vs body is (named t full fn r w k vs body x env (labels s))) = λ s. exec-keeps is _ (p .1) in
+      let go : (s : State) → Keeps (exec t (full sc) fn r w k vs body is (named t (full sc) fn r w k vs body x env (labels s))) = λ s. exec-keeps is _ (p .1) in
       let a = act-keeps x env (p .0) in
       record {
-        holds = λ s h. go s .holds (act t full fn r w k vs body x env s) (a .holds s h);
-        more = λ s. omega (arith, a .more s, go s .more (act t full fn r w k vs body x env s));
+        holds = λ s h. go s .holds (act t (full sc) fn r w k vs body x env s) (a .holds s h);
+        more = λ s. omega (arith, a .more s, go s .more (act t (full sc) fn r w k vs body x env s));
       }
 
-module _ (t : Semantic) where
+module _ (sc : StackCode) (t : Lookup) where
   abbrev Keeps-all : Visit → Type 0
   Keeps-all v = (a : Role) (fn : Words) → Keeps (v a fn)
 
-  children-keep : (k : Forest) → Each (λ r w k. Keeps-all (visit-of t full r w k)) k → (fn : Words) (a : Role) (j : ℕ) → Keeps (child-visit (visits-of t full k) fn a j)
+  children-keep : (k : Forest) → Each (λ r w k. Keeps-all (visit-of t (full sc) r w k)) k → (fn : Words) (a : Role) (j : ℕ) → Keeps (child-visit (visits-of t (full sc) k) fn a j)
   children-keep k h fn a j =
-      each-at (visit-alg t full) (visit-alg t full) (λ x y. Keeps-all x) absent absent (λ a fn. record { holds = λ s h. h; more = λ s. omega arith }) k h j a fn
+      each-at (visit-alg t (full sc)) (visit-alg t (full sc)) (λ x y. Keeps-all x) absent absent (λ a fn. record { holds = λ s h. h; more = λ s. omega arith }) k h j a fn
 
-  stream-keep : (r : ℕ) (w : Words) (k : Forest) → Each (λ r w k. Keeps-all (visit-of t full r w k)) k → Keeps (stream t full r w k (visits-of t full k))
+  stream-keep : (r : ℕ) (w : Words) (k : Forest) → Each (λ r w k. Keeps-all (visit-of t (full sc) r w k)) k → Keeps (stream t (full sc) r w k (visits-of t (full sc) k))
   unfolding stream pure
   stream-keep r w k h =
-      exec-keeps t w r w k (child-visit (visits-of t full k) w) idle (children-keep k h w) (record { holds = λ s h. h; more = λ s. omega arith }) (stream-steps w) [] (go (is-do w))
+      exec-keeps sc t w r w k (child-visit (visits-of t (full sc) k) w) idle (children-keep k h w) (record { holds = λ s h. h; more = λ s. omega arith }) (stream-steps
+      w) [] (go (is-do w))
     where
-      go : (d : Bool) → T (pure (cond d (expr 0 ∷ expr 1 ∷ say Pop 0 ∷ say LoadLocals 0 ∷ say Return 0 ∷ []) (expr 0 ∷ expr 1 ∷ say Return 0 ∷ [])))
+      go : (d : Bool) → T (pure (cond d (expr 0 ∷ expr 1 ∷ push-op Pop 0 ∷ push-op LoadLocals 0 ∷ push-op Return 0 ∷ []) (expr 0 ∷ expr 1 ∷ push-op Return 0 ∷ [])))
       go true = tt
       go false = tt
 
   -- a Function, and any other record
-  visit-keep : (r : ℕ) (w : Words) (k : Forest) → Each (λ r w k. Keeps-all (visit-of t full r w k)) k → Keeps-all (visit-of t full r w k)
+  visit-keep : (r : ℕ) (w : Words) (k : Forest) → Each (λ r w k. Keeps-all (visit-of t (full sc) r w k)) k → Keeps-all (visit-of t (full sc) r w k)
   unfolding exec
   visit-keep r w k h a fn = go (ℕ-discrete (w .kind) 30)
     where
       vs : Role → ℕ → State → State
-      vs = child-visit (visits-of t full k) fn
+      vs = child-visit (visits-of t (full sc) k) fn
 
       body : State → State
-      body = stream t full r w k (visits-of t full k)
+      body = stream t (full sc) r w k (visits-of t (full sc) k)
 
-      own : (d : Bool) → Keeps (exec t full fn r w k vs body (cond d (inner ∷ load (function (w .p)) ∷ say Call 0 ∷ []) (inner ∷ load (function (w .p)) ∷ [])) [])
+      own : (d : Bool) → Keeps (exec t (full sc) fn r w k vs body (cond d (inner ∷ load (function (w .p)) ∷ push-op Call 0 ∷ []) (inner ∷ load (function (w .p)) ∷ [])) [])
       own true = then-keeps _ (emit (mark r (Do Call 0))) (function-keeps r w body (stream-keep r w k h)) (emit-keeps (mark r (Do Call 0)) (λ n. tt))
       own false = function-keeps r w body (stream-keep r w k h)
 
-      go : Dec (w .kind ≡ 30) → Keeps (exec t full fn r w k vs body (steps a w (own-tree k)) [])
-      go (yes e) = function-only (λ is. Keeps (exec t full fn r w k vs body is [])) a w (own-tree k) e (record { holds = λ s h. h; more = λ s. omega arith }) (own (is-do w))
-      go (no ne) = exec-keeps t fn r w k vs body (children-keep k h fn) (stream-keep r w k h) (steps a w (own-tree k)) [] (steps-pure a w (own-tree k) ne)
+      go : Dec (w .kind ≡ 30) → Keeps (exec t (full sc) fn r w k vs body (steps sc a w (own-tree k)) [])
+      go (yes e) = function-only (λ is. Keeps (exec t (full sc) fn r w k vs body is [])) sc a w (own-tree k) e (record { holds = λ s h. h; more = λ s. omega arith })
+          (own (is-do w))
+      go (no ne) = exec-keeps sc t fn r w k vs body (children-keep k h fn) (stream-keep r w k h) (steps sc a w (own-tree k)) [] (steps-pure sc a w (own-tree k) ne)
 
   -- every Function constant of every stream is the number of a function met
-  pub run-known : (recs : List ℕ) → Every (λ x. AllKnown (side (run t recs) .met) (x .marks)) (side (run t recs) .streams)
+  pub run-known : (recs : List ℕ) → Every (λ x. AllKnown (side (run sc t recs) .met) (x .marks)) (side (run sc t recs) .streams)
   unfolding run
   run-known recs =
       let w = words recs 0 in
       let k = children recs 0 in
-      nested-keeps 0 w (stream t full 0 w k (visits-of t full k)) (stream-keep 0 w k (each (λ r w k. Keeps-all (visit-of t full r w k)) visit-keep k)) .holds nothing
+      nested-keeps 0 w (stream t (full sc) 0 w k (visits-of t (full sc) k)) (stream-keep 0 w k (each (λ r w k. Keeps-all (visit-of t (full sc) r w k)) visit-keep k))
+      .holds nothing
       (record { current = tt; done = tt }) .done

@@ -12,10 +12,10 @@ use Rattle.tables.specs.declared.children.Class.{Class}
 use Rattle.tables.specs.declared.children.Class.the-variants.{Expr as expression, Pattern, Lit, Case}
 use Rattle.tables.specs.Children.{times, one, belongs, leads, fits, suits, node-words}
 use Rattle.tables.proofs.ForestLaws.{and-l, and-r}
-use Rattle.pool.specs.Names.{Semantic}
 use Rattle.pool.specs.Value.{lit}
+use Rattle.rules.specs.Run.{Lookup}
 use Rattle.rules.specs.Marker.{Pop, Eq, Jump, PopJumpIfFalse, JumpPopIfNull, LoadConst}
-use Rattle.rules.specs.Step.{Role, Path, Set, Step, say, put, take, jump, seek, width}
+use Rattle.rules.specs.Step.{Role, ChildPath, Set, Step, push-op, push-const, get-label, jump, access, width}
 use Rattle.rules.specs.Patterns.{
   Part,
   item,
@@ -123,7 +123,7 @@ pattern-nesting : (w : Words) (k : Nodes) → T (belongs Pattern (w .kind)) → 
     → pattern-labels w k ≡ suc (nesting (node w k bare))
 pattern-nesting w k t m mk = omega (arith, labels-max (node w k bare) item 0 1 (t, tt) (m, mk, tt) (omega arith))
 
-module _ (t : Semantic) (fn : Words) (r : ℕ) (w₀ : Words) (f : Forest) (ks : Role → ℕ → Seg) (body : Seg) where
+module _ (t : Lookup) (fn : Words) (r : ℕ) (w₀ : Words) (f : Forest) (ks : Role → ℕ → Seg) (body : Seg) where
   abbrev count : List Step → ℕ
   count is = seg-count t fn r w₀ f ks body is
 
@@ -135,40 +135,40 @@ module _ (t : Semantic) (fn : Words) (r : ℕ) (w₀ : Words) (f : Forest) (ks :
   unfolding seg-count
   taking-count d h is = go (ltb (suc d) h)
     where
-      go : (b : Bool) → count (cond b is (take ∷ is)) + h ≡ cond b h (suc h) + count is
+      go : (b : Bool) → count (cond b is (get-label ∷ is)) + h ≡ cond b h (suc h) + count is
       go true = omega arith
       go false = omega arith
 
-  test-count : (l : ℕ) (at : Path) (w : Words) (k : Nodes) (is : List Step) → count (table-test l at w k is) ≡ count is
+  test-count : (l : ℕ) (at : ChildPath) (w : Words) (k : Nodes) (is : List Step) → count (table-test l at w k is) ≡ count is
   unfolding seg-count
   test-count l at w k is = same-count (eqb (w .detail) 1) is (length-test l at w k is) (count is) refl refl
 
   -- H: the labels after what is inside
-  pattern-count : (m d h H : ℕ) (at : Path) (w : Words) (k : Nodes) (inside : List Step → List Step) (is : List Step)
+  pattern-count : (m d h H : ℕ) (at : ChildPath) (w : Words) (k : Nodes) (inside : List Step → List Step) (is : List Step)
       → ((is : List Step) → count (inside is) + grown d h ≡ H + count is) → count (pattern-steps m d h at w k inside is) + h ≡ cond (is-nested w) H h + count is
   unfolding seg-count
   pattern-count m d h H at w k inside is ih = go (is-nested w)
     where
       many : List Step
-      many = table-test (m + suc d) at w k (inside (say Pop 0 ∷ is))
+      many = table-test (m + suc d) at w k (inside (push-op Pop 0 ∷ is))
 
       ident : List Step
-      ident = jump JumpPopIfNull (m + d) ∷ seek Set at ∷ is
+      ident = jump JumpPopIfNull (m + d) ∷ access Set at ∷ is
 
       literal : List Step
-      literal = put LoadConst at (lit (w .detail) (w .p) (w .q)) ∷ say Eq 0 ∷ jump PopJumpIfFalse (m + d) ∷ is
+      literal = push-const LoadConst at (lit (w .detail) (w .p) (w .q)) ∷ push-op Eq 0 ∷ jump PopJumpIfFalse (m + d) ∷ is
 
       go : (b : Bool) → count (cond b (taking d h many) (cond (is-kind 36 w) ident literal)) + h ≡ cond b H h + count is
-      go true = omega (arith, taking-count d h many, test-count (m + suc d) at w k (inside (say Pop 0 ∷ is)), ih (say Pop 0 ∷ is))
+      go true = omega (arith, taking-count d h many, test-count (m + suc d) at w k (inside (push-op Pop 0 ∷ is)), ih (push-op Pop 0 ∷ is))
       go false = omega (arith, same-count (is-kind 36 w) ident literal (count is) refl refl)
 
-  lead-count : (part : Part) (at : Path) (i : ℕ) (w : Words) (is : List Step) → count (lead part at i w is) ≡ count is
+  lead-count : (part : Part) (at : ChildPath) (i : ℕ) (w : Words) (is : List Step) → count (lead part at i w is) ≡ count is
   unfolding seg-count
   lead-count item at i w is = refl
   lead-count key at i w is = refl
   lead-count value at i w is = refl
 
-  inside-count : (m : ℕ) (N : Nodes) (part : Part) (d h : ℕ) (at : Path) (i : ℕ) (is : List Step)
+  inside-count : (m : ℕ) (N : Nodes) (part : Part) (d h : ℕ) (at : ChildPath) (i : ℕ) (is : List Step)
       → count (inside-steps part m d h at i N is) + h ≡ labels-after part d h N + count is
   inside-count m bare part d h at i is = omega arith
   inside-count m (node w k s) part d h at i is =
@@ -202,13 +202,14 @@ module _ (t : Semantic) (fn : Words) (r : ℕ) (w₀ : Words) (f : Forest) (ks :
   cleanup-count (suc zero) m is = refl
   cleanup-count (suc (suc h)) m is = cleanup-count (suc h) m is
 
-  tests-count : (m i : ℕ) (at : Path) (w : Words) (k : Nodes) (is : List Step) → count (test-steps m i at w k is) ≡ pattern-labels w k + count is
+  tests-count : (m i : ℕ) (at : ChildPath) (w : Words) (k : Nodes) (is : List Step) → count (test-steps m i at w k is) ≡ pattern-labels w k + count is
   unfolding seg-count
   tests-count m i at w k is =
       let H = pattern-labels w k in
       omega (
         arith,
-        pattern-count m 0 1 (labels-after (parts w) 1 (grown 0 1) k) at w k (λ is. inside-steps (parts w) m 1 (grown 0 1) at 0 k is) (say Pop 0 ∷ jump Jump i ∷ cleanup m H is)
+        pattern-count m 0 1 (labels-after (parts w) 1 (grown 0 1) k) at w k (λ is. inside-steps (parts w) m 1 (grown 0 1) at 0 k is) (push-op Pop 0 ∷ jump Jump i ∷
+            cleanup m H is)
             (λ is. inside-count m k (parts w) 1 (grown 0 1) at 0 is),
         cleanup-count H m is,
       )

@@ -16,6 +16,7 @@ use Rattle.tables.specs.Children.{member, expected, words-of, node-words}
 use Rattle.tables.proofs.ForestLaws.{and-l, and-r}
 use Rattle.rules.specs.Step.{Role, Expr, Callee, Tail, Target, Before, After, width}
 use Rattle.rules.specs.Arms.{arguments, is-tail}
+use Rattle.rules.specs.declared.StackCode.the-variants.{Code1}
 use Rattle.rules.specs.Kinds.{Kind, kinds}
 use Rattle.rules.specs.Counts.{handler-count}
 use Rattle.rules.proofs.Shapes.{Shaped}
@@ -216,10 +217,14 @@ abbrev pub listed : ℕ → List Kind → Bool
 listed n [] = false
 listed n (x ∷ xs) = eqb n (x .number) || listed n xs
 
+-- which are the same in both codes
+abbrev pub is-listed : ℕ → Bool
+is-listed n = listed n (kinds Code1)
+
 -- kinds that are visited in a role
 abbrev pub plays : Role → ℕ → Bool
-plays Expr n = listed n kinds
-plays Callee n = listed n kinds
+plays Expr n = is-listed n
+plays Callee n = is-listed n
 plays Tail n = eqb n 13
 plays Target n = eqb n 34
 plays Before n = eqb n 34
@@ -228,14 +233,14 @@ plays After n = false
 is-numbered : (p : ℕ → Bool) (m n : ℕ) → T (p m) → T (eqb n m) → T (p n)
 is-numbered p m n h t = subst (λ i. T (p i)) (sym (eqb→eq n m t)) h
 
-expr-listed : (n : ℕ) → T (leb 1 n && leb n 27) → T (listed n kinds)
+expr-listed : (n : ℕ) → T (leb 1 n && leb n 27) → T (is-listed n)
 expr-listed n t =
-    let p : ℕ → Bool = λ n. not (leb 1 n) || listed n kinds in
+    let p : ℕ → Bool = λ n. not (leb 1 n) || is-listed n in
     let a : 1 ≤ n = leb→le 1 n (and-l (leb 1 n) _ t) in
     let b : n ≤ 27 = leb→le n 27 (and-r (leb 1 n) _ t) in
     go (leb 1 n) (and-l (leb 1 n) _ t) (below-at 28 p tt n (omega arith))
   where
-    go : (b : Bool) → T b → T (not b || listed n kinds) → T (listed n kinds)
+    go : (b : Bool) → T b → T (not b || is-listed n) → T (is-listed n)
     go true u v = v
     go false u v = absurd u
 
@@ -253,25 +258,25 @@ visited Case = true
 visited Left = false
 visited Item = true
 
-pub class-plays : (c : Class) → T (visited c) → (n : ℕ) → T (belongs c n) → T (listed n kinds)
+pub class-plays : (c : Class) → T (visited c) → (n : ℕ) → T (belongs c n) → T (is-listed n)
 class-plays expression v n t = expr-listed n t
 class-plays Pattern v n t = absurd v
-class-plays Lit v n t = is-numbered (λ n. listed n kinds) 1 n tt t
-class-plays Ident v n t = is-numbered (λ n. listed n kinds) 2 n tt t
-class-plays Block v n t = is-numbered (λ n. listed n kinds) 4 n tt t
-class-plays Function v n t = is-numbered (λ n. listed n kinds) 30 n tt t
-class-plays Params v n t = is-numbered (λ n. listed n kinds) 31 n tt t
-class-plays Handler v n t = is-numbered (λ n. listed n kinds) 32 n tt t
-class-plays Case v n t = is-numbered (λ n. listed n kinds) 33 n tt t
+class-plays Lit v n t = is-numbered is-listed 1 n tt t
+class-plays Ident v n t = is-numbered is-listed 2 n tt t
+class-plays Block v n t = is-numbered is-listed 4 n tt t
+class-plays Function v n t = is-numbered is-listed 30 n tt t
+class-plays Params v n t = is-numbered is-listed 31 n tt t
+class-plays Handler v n t = is-numbered is-listed 32 n tt t
+class-plays Case v n t = is-numbered is-listed 33 n tt t
 class-plays Left v n t = absurd v
-class-plays Item v n t = is-numbered (λ n. listed n kinds) 39 n tt t
+class-plays Item v n t = is-numbered is-listed 39 n tt t
 
 -- expressions, and pairs of them
-pub any-listed : (N : Nodes) → T (fits (any expression ∷ []) (node-words N)) → AllKinds (λ n. listed n kinds) N
-any-listed N u = kinds-map (belongs expression) (λ n. listed n kinds) (class-plays expression tt) N (fits-any expression N u)
+pub any-listed : (N : Nodes) → T (fits (any expression ∷ []) (node-words N)) → AllKinds is-listed N
+any-listed N u = kinds-map (belongs expression) is-listed (class-plays expression tt) N (fits-any expression N u)
 
-pub pairs-listed : (N : Nodes) → T (fits (pairs expression expression ∷ []) (node-words N)) → AllKinds (λ n. listed n kinds) N
-pairs-listed N u = alternate-kinds expression expression (λ n. listed n kinds) (class-plays expression tt) (class-plays expression tt) N (fits-pairs expression expression N u)
+pub pairs-listed : (N : Nodes) → T (fits (pairs expression expression ∷ []) (node-words N)) → AllKinds is-listed N
+pairs-listed N u = alternate-kinds expression expression is-listed (class-plays expression tt) (class-plays expression tt) N (fits-pairs expression expression N u)
 
 -- kinds that take no label, with all below them
 abbrev pub quiet : ℕ → Bool
@@ -324,13 +329,13 @@ argument w k s d h = go (is-kind 32 w) (λ t. d (eqb→eq (w .kind) 32 t))
 
 -- "arguments, at most one Function, Handlers": all are visited, and what is no argument is a Handler
 abbrev pub Arguments : Nodes → Type 0
-Arguments N = (handler-count N + arguments N ≡ width N) × AllKinds (λ n. listed n kinds) N
+Arguments N = (handler-count N + arguments N ≡ width N) × AllKinds is-listed N
 
 handlers-only : (N : Nodes) → T (fits (any Handler ∷ []) (node-words N)) → Arguments N
 handlers-only N t =
     let a = fits-any Handler N t in
     let h = all-handlers N a in
-    (omega (arith, h .0, h .1), kinds-map (belongs Handler) (λ n. listed n kinds) (class-plays Handler tt) N a)
+    (omega (arith, h .0, h .1), kinds-map (belongs Handler) is-listed (class-plays Handler tt) N a)
 
 pub fits-arguments : (N : Nodes) → T (fits (any expression ∷ maybe Function ∷ any Handler ∷ []) (node-words N)) → Arguments N
 unfolding fits

@@ -10,8 +10,10 @@ use Rattle.tables.specs.Forest.{Forest, Nodes, bare, node}
 use Rattle.tables.specs.declared.children.Class.{Class}
 use Rattle.tables.specs.declared.children.Class.the-variants.{Expr as expression, Pattern, Ident, Block, Function, Params, Left, Item}
 use Rattle.tables.specs.Children.{times, any, one, belongs, fits, member, property as wanted, left-property, imported, bracket, node-words}
-use Rattle.pool.specs.Names.{Semantic}
-use Rattle.rules.specs.Marker.{Code, Pop, Copy, Swap, Jump, Call, ImportGlob}
+use Rattle.rules.specs.Run.{Lookup}
+use Rattle.rules.specs.declared.StackCode.{StackCode}
+use Rattle.rules.specs.declared.StackCode.the-variants.{Code1, Code2}
+use Rattle.rules.specs.Marker.{Code, Pop, Copy, Swap, Jump, Call, ImportGlob, Return}
 use Rattle.rules.specs.Step.{
   Role,
   Expr,
@@ -20,22 +22,24 @@ use Rattle.rules.specs.Step.{
   Target,
   Before,
   After,
+  pass,
   Set,
   Step,
-  say,
-  take,
+  push-op,
+  get-label,
   place,
   jump,
-  back,
-  leave,
-  seek,
+  jump-back,
+  visit,
+  end-loop,
+  access,
   expr,
   null,
   visits,
   visits-down,
   stores-down,
-  takes,
-  says,
+  get-labels,
+  push-ops,
   width,
 }
 use Rattle.rules.specs.Arms.{
@@ -48,6 +52,7 @@ use Rattle.rules.specs.Arms.{
   get-code,
   set-code,
   method-steps,
+  unlabelled,
   member-steps,
   registers,
   bodies,
@@ -57,6 +62,7 @@ use Rattle.rules.specs.Arms.{
   for-targets,
   for-steps,
   is-tail,
+  return-label,
   return-steps,
   simple-import,
   import-steps,
@@ -68,8 +74,7 @@ use Rattle.rules.specs.Arms.{
   target-steps,
   before-steps,
 }
-use Rattle.rules.specs.Kinds.{kinds}
-use Rattle.rules.specs.Counts.{call-labels, own-labels}
+use Rattle.rules.specs.Counts.{call-labels, return-labels, own-labels}
 use Rattle.rules.proofs.Segment.{Seg, seg-count}
 use Rattle.rules.proofs.LabelShapes.{
   as-kind,
@@ -93,7 +98,7 @@ use Rattle.rules.proofs.LabelShapes.{
   fits-two,
   fits-three,
   fits-any,
-  listed,
+  is-listed,
   plays,
   visited,
   class-plays,
@@ -111,14 +116,14 @@ pub record Counts (ks : Role → ℕ → Seg) (L : ℕ → ℕ) (N : Nodes) : Ty
   pub silent : (j : ℕ) → T (quiet (kind-at N j)) → L j ≡ 0
 
 -- a record's own labels with the kind apart
-abbrev pub own-as : ℕ → Words → Nodes → ℕ
-own-as n w k = own-labels (as-kind n w) k
+abbrev pub own-as : StackCode → ℕ → Words → Nodes → ℕ
+own-as sc n w k = own-labels sc (as-kind n w) k
 
 -- a visit of the kind reaches all children: not a Function's, and an AssignMulti's only if the lengths agree
 abbrev pub reaches : ℕ → Words → Nodes → Bool
 reaches n w N = cond (eqb n 30) false (cond (eqb n 27) (eqb (w .p + w .p) (width N)) true)
 
-module _ (t : Semantic) (fn : Words) (r : ℕ) (w₀ : Words) (f : Forest) (ks : Role → ℕ → Seg) (body : Seg) where
+module _ (t : Lookup) (fn : Words) (r : ℕ) (w₀ : Words) (f : Forest) (ks : Role → ℕ → Seg) (body : Seg) where
   abbrev count : List Step → ℕ
   count is = seg-count t fn r w₀ f ks body is
 
@@ -131,12 +136,12 @@ module _ (t : Semantic) (fn : Words) (r : ℕ) (w₀ : Words) (f : Forest) (ks :
   branch P true x y n u p q = p u
   branch P false x y n u p q = q u
 
-  pub takes-count : (n : ℕ) (is : List Step) → count (takes n is) ≡ n + count is
+  pub takes-count : (n : ℕ) (is : List Step) → count (get-labels n is) ≡ n + count is
   unfolding seg-count
   takes-count zero is = omega arith
   takes-count (suc n) is = omega (arith, takes-count n is)
 
-  says-count : (n : ℕ) (c : Code) (x : ℕ) (is : List Step) → count (says n c x is) ≡ count is
+  says-count : (n : ℕ) (c : Code) (x : ℕ) (is : List Step) → count (push-ops n c x is) ≡ count is
   unfolding seg-count
   says-count zero c x is = refl
   says-count (suc n) c x is = says-count n c x is
@@ -153,7 +158,7 @@ module _ (t : Semantic) (fn : Words) (r : ℕ) (w₀ : Words) (f : Forest) (ks :
 
   targets-count : (p : ℕ) (is : List Step) → count (for-targets p is) ≡ count is
   unfolding seg-count
-  targets-count p is = either (eqb p 1) (seek Set (0 ∷ []) ∷ is) (items-stored 0 p (say Pop 0 ∷ is)) (count is) refl (items-count 0 p (say Pop 0 ∷ is))
+  targets-count p is = either (eqb p 1) (access Set (0 ∷ []) ∷ is) (items-stored 0 p (push-op Pop 0 ∷ is)) (count is) refl (items-count 0 p (push-op Pop 0 ∷ is))
 
   registers-count : (i j n : ℕ) (is : List Step) → count (registers i j n is) ≡ n + count is
   unfolding seg-count
@@ -236,8 +241,8 @@ module _ (t : Semantic) (fn : Words) (r : ℕ) (w₀ : Words) (f : Forest) (ks :
     named d x u = let g = fits-two Ident d N u in omega (arith, all-of 2 (g .wide), ident 0 (g .is0), seen d x 1 (g .is1))
 
     -- all are visited
-    pub row-count : (is : List Step) → AllKinds (λ n. listed n kinds) N → count (visits Expr 0 (width N) is) ≡ all + count is
-    row-count is k = visits-count Expr 0 (width N) is (λ i g l. kinds-at (λ n. listed n kinds) N k i (omega arith))
+    pub row-count : (is : List Step) → AllKinds is-listed N → count (visits Expr 0 (width N) is) ≡ all + count is
+    row-count is k = visits-count Expr 0 (width N) is (λ i g l. kinds-at is-listed N k i (omega arith))
 
     -- all are silent
     mute : AllKinds quiet N → all ≡ 0
@@ -314,50 +319,65 @@ module _ (t : Semantic) (fn : Words) (r : ℕ) (w₀ : Words) (f : Forest) (ks :
             omega (arith, of 0 g, plain (h .absent Expr 1 (omega (arith, e, g))))
 
     -- a Member, as callee too
-    module _ (w : Words) (u : T (fits (one expression ∷ wanted (member (w .detail))) (node-words N))) where
-      member-rest : (is : List Step) → (ks Expr 0) .count + count (safe-jump w (property (w .detail % 8) N is)) ≡ all + count is
+    module _ (sc : StackCode) (w : Words) (u : T (fits (one expression ∷ wanted (member (w .detail))) (node-words N))) where
+      -- a label where it is not left out
+      labelled : (b : Bool) (x y : List Step) → (ks Expr 0) .count + count x ≡ 0 + all → (ks Expr 0) .count + count y ≡ 1 + all
+          → (ks Expr 0) .count + count (cond b x y) ≡ cond b 0 1 + all
+      labelled true x y p q = p
+      labelled false x y p q = q
+
+      member-rest : (is : List Step) → (ks Expr 0) .count + count (property (w .detail % 8) N is) ≡ all + count is
       member-rest is =
           let g = fits-one expression (wanted (member (w .detail))) N u in
           omega (
             arith,
             seen expression tt 0 (g .is),
             all-of (suc (width (after 1 N))) (g .wide),
-            safe-count w (property (w .detail % 8) N is),
             property-count (member (w .detail)) (w .detail % 8) is (member-zero (w .detail)) (g .wide) (g .rest),
           )
 
-      pub member-count : count (member-steps w N) ≡ 1 + all
+      pub member-count : count (member-steps sc w N) ≡ cond (unlabelled sc (w .detail)) 0 1 + all
       unfolding seg-count
-      member-count = omega (arith, member-rest (say (get-code (w .detail % 8)) 0 ∷ place 0 ∷ []))
-
-      pub method-count : count (method-steps w N) ≡ 1 + all
-      unfolding seg-count
-      method-count = omega (arith, safe-count w (say Copy 1 ∷ more), member-rest last, safe-count w more)
+      member-count =
+          labelled (unlabelled sc (w .detail)) (more []) (get-label ∷ safe-jump w (more (place 0 ∷ []))) (omega (arith, member-rest (last [])))
+          (omega (arith, safe-count w (more (place 0 ∷ [])), member-rest (last (place 0 ∷ []))))
         where
-          last : List Step
-          last = say (get-code (w .detail % 8)) 0 ∷ say Swap 2 ∷ place 0 ∷ []
+          last : List Step → List Step
+          last end = push-op (get-code (w .detail % 8)) 0 ∷ end
 
-          more : List Step
-          more = property (w .detail % 8) N last
+          more : List Step → List Step
+          more end = property (w .detail % 8) N (last end)
+
+      pub method-count : count (method-steps sc w N) ≡ cond (unlabelled sc (w .detail)) 0 1 + all
+      unfolding seg-count
+      method-count =
+          labelled (unlabelled sc (w .detail)) (more []) (get-label ∷ safe-jump w (more (place 0 ∷ []))) (omega (arith, member-rest (last [])))
+          (omega (arith, safe-count w (more (place 0 ∷ [])), member-rest (last (place 0 ∷ []))))
+        where
+          last : List Step → List Step
+          last end = push-op (get-code (w .detail % 8)) 0 ∷ push-op Swap 2 ∷ end
+
+          more : List Step → List Step
+          more end = push-op Copy 1 ∷ property (w .detail % 8) N (last end)
 
     -- Call: a arguments, n Handlers
-    pub calls-count : (c : Code) (x a n : ℕ) → T (listed (kind-at N 0) kinds) → Plays Expr 1 (a + n) → count (call-with c x a n) ≡ call-labels n + sum L 0 (suc (a + n))
+    pub calls-count : (c : Code) (x a n : ℕ) → T (is-listed (kind-at N 0)) → Plays Expr 1 (a + n) → count (call-with c x a n) ≡ call-labels n + sum L 0 (suc (a + n))
     unfolding seg-count
     calls-count c x a zero p q =
         omega (
           arith,
           h .visits Callee 0 p,
-          visits-count Expr 1 a (say c x ∷ []) (λ i g l. q i g (omega arith)),
+          visits-count Expr 1 a (push-op c x ∷ []) (λ i g l. q i g (omega arith)),
           sum-split L a 0 1 (suc a) (a + 0) (omega arith) refl,
         )
     calls-count c x a (suc n) p q =
         let last = bodies 1 (suc a) (suc n) (place 0 ∷ []) in
-        let more = take ∷ registers 1 (suc a) (suc n) (say Call x ∷ jump Jump 0 ∷ last) in
+        let more = get-label ∷ registers 1 (suc a) (suc n) (push-op Call x ∷ jump Jump 0 ∷ last) in
         omega (
           arith,
           h .visits Callee 0 p,
           visits-count Expr 1 a more (λ i g l. q i g (omega arith)),
-          registers-count 1 (suc a) (suc n) (say Call x ∷ jump Jump 0 ∷ last),
+          registers-count 1 (suc a) (suc n) (push-op Call x ∷ jump Jump 0 ∷ last),
           bodies-count 1 (suc a) (suc n) (place 0 ∷ []) (λ i g l. q i (omega arith) (omega arith)),
           sum-split L a (suc n) 1 (suc a) (a + suc n) (omega arith) refl,
         )
@@ -371,19 +391,24 @@ module _ (t : Semantic) (fn : Words) (r : ℕ) (w₀ : Words) (f : Forest) (ks :
         let e = fits-two expression Block (after p N) (g .rest) in
         omega (
           arith,
-          targets-count p (expr (suc p) ∷ say Pop 0 ∷ back 0 ∷ place 1 ∷ say Pop 0 ∷ null ∷ leave ∷ []),
+          targets-count p (expr (suc p) ∷ push-op Pop 0 ∷ jump-back 0 ∷ place 1 ∷ push-op Pop 0 ∷ null ∷ end-loop ∷ []),
           all-from p 2 (omega (arith, g .wide, e .wide)),
           sum-zero L 0 p (λ i _ l. ident i (g .are i (omega arith))),
           seen expression tt p (subst (λ n. T (belongs expression n)) (kind-after p N 0 p (omega arith)) (e .is0)),
           seen Block tt (suc p) (subst (λ n. T (belongs Block n)) (kind-after p N 1 (suc p) (omega arith)) (e .is1)),
         )
 
-    pub return-count : (w : Words) → T (fits (one expression ∷ []) (node-words N)) → count (return-steps w N) ≡ 1 + all
+    pub return-count : (sc : StackCode) (w : Words) → T (fits (one expression ∷ []) (node-words N)) → count (return-steps sc w N) ≡ return-labels sc + all
     unfolding seg-count
-    return-count w u =
+    return-count sc w u =
         let g = fits-single expression N u in
-        branch (λ b. T b → T (eqb (kind-at N 0) 13)) (is-tail N) _ _ (1 + all) (tail-kind N) (λ q. omega (arith, h .visits Tail 0 (q tt), all-of 1 (g .0)))
-        (λ q. omega (arith, single expression tt u))
+        branch (λ b. T b → T (eqb (kind-at N 0) 13)) (is-tail N) _ _ (return-labels sc + all) (tail-kind N)
+        (λ q. omega (arith, label-count sc (visit pass Tail 0 ∷ null ∷ []), h .visits Tail 0 (q tt), all-of 1 (g .0)))
+        (λ q. omega (arith, label-count sc (expr 0 ∷ push-op Return 0 ∷ null ∷ []), single expression tt u))
+      where
+        label-count : (sc : StackCode) (is : List Step) → count (return-label sc is) ≡ return-labels sc + count is
+        label-count Code1 is = omega arith
+        label-count Code2 is = omega arith
 
     -- Import: the Items are visited
     simple-count : (w : Words) (p : ℕ) → count (simple-import w p) ≡ 0
@@ -415,15 +440,15 @@ module _ (t : Semantic) (fn : Words) (r : ℕ) (w₀ : Words) (f : Forest) (ks :
 
         items : T (fits (any Item ∷ []) (node-words (after p N))) → Plays Expr p (width N - p)
         items v i a b =
-            rest-kinds (λ n. listed n kinds) p N (kinds-map (belongs Item) (λ n. listed n kinds) (class-plays Item tt) (after p N) (fits-any Item (after p N) v)) i a
+            rest-kinds is-listed p N (kinds-map (belongs Item) is-listed (class-plays Item tt) (after p N) (fits-any Item (after p N) v)) i a
             (omega (arith, g .wide))
 
         go : (x y z : Bool) → (T x → (T y → ⊥) × (T z → ⊥)) → T (fits (cond y (one Ident ∷ []) (cond x (any Item ∷ []) [])) (node-words (after p N)))
-            → count (cond z (simple-import w p) (cond x (visits Expr p (width N - p) (say Pop 0 ∷ null ∷ [])) (say ImportGlob 0 ∷ null ∷ []))) ≡ 0 + all
+            → count (cond z (simple-import w p) (cond x (visits Expr p (width N - p) (push-op Pop 0 ∷ null ∷ [])) (push-op ImportGlob 0 ∷ null ∷ []))) ≡ 0 + all
         go true true z q v = absurd (q tt .0 tt)
         go true false true q v = absurd (q tt .1 tt)
         go true false false q v =
-            omega (arith, visits-count Expr p (width N - p) (say Pop 0 ∷ null ∷ []) (items v), past (width N - p) (omega (arith, g .wide)))
+            omega (arith, visits-count Expr p (width N - p) (push-op Pop 0 ∷ null ∷ []) (items v), past (width N - p) (omega (arith, g .wide)))
         go false y true q v = omega (arith, alias y v, simple-count w p)
         go false y false q v = omega (arith, alias y v)
 
@@ -462,12 +487,12 @@ module _ (t : Semantic) (fn : Words) (r : ℕ) (w₀ : Words) (f : Forest) (ks :
         let p = w .p in
         let g = fits-times p Left (any expression ∷ []) N u in
         let e : p + p ≡ width N = eqb→eq (p + p) (width N) v in
-        let k = kinds-map (belongs expression) (λ n. listed n kinds) (class-plays expression tt) (after p N) (fits-any expression (after p N) (g .rest)) in
+        let k = kinds-map (belongs expression) is-listed (class-plays expression tt) (after p N) (fits-any expression (after p N) (g .rest)) in
         branch T (eqb (p + p) (width N)) _ _ (0 + all) v
         (λ _.
         omega (
           arith,
-          visits-count Expr p p (visits-down Target p (null ∷ [])) (λ i a b. rest-kinds (λ n. listed n kinds) p N k i a (omega (arith, g .wide, e))),
+          visits-count Expr p p (visits-down Target p (null ∷ [])) (λ i a b. rest-kinds is-listed p N k i a (omega (arith, g .wide, e))),
           visits-down-count Target p (null ∷ []) (λ i _ l. g .are i (omega arith)),
           all-from p p (sym e),
         ))
@@ -494,7 +519,7 @@ module _ (t : Semantic) (fn : Words) (r : ℕ) (w₀ : Words) (f : Forest) (ks :
     unfolding seg-count
     target-count w u =
         branch (LeftForm w) (eqb (w .detail) 0) _ _ (0 + all) u (λ u. omega (arith, left-name u))
-        (λ u. omega (arith, left-property-count (w .detail - 1) (say (set-code (w .detail - 1)) 0 ∷ seek Set (0 ∷ []) ∷ []) u))
+        (λ u. omega (arith, left-property-count (w .detail - 1) (push-op (set-code (w .detail - 1)) 0 ∷ access Set (0 ∷ []) ∷ []) u))
 
     pub before-count : (w : Words) → T (fits (one Ident ∷ left-property (w .detail)) (node-words N)) → count (before-steps w N) ≡ 0 + all
     unfolding seg-count
@@ -502,7 +527,7 @@ module _ (t : Semantic) (fn : Words) (r : ℕ) (w₀ : Words) (f : Forest) (ks :
         branch (LeftForm w) (eqb (w .detail) 0) _ _ (0 + all) u (λ u. omega (arith, left-name u))
         (λ u.
         branch (λ b. b ≡ ltb (w .detail) 4) (ltb (w .detail) 4) _ _ (0 + all) refl
-        (λ e. omega (arith, left-property-count (w .detail - 1) (say Copy 2 ∷ say Copy 2 ∷ say (get-code (w .detail - 1)) 0 ∷ []) u))
+        (λ e. omega (arith, left-property-count (w .detail - 1) (push-op Copy 2 ∷ push-op Copy 2 ∷ push-op (get-code (w .detail - 1)) 0 ∷ []) u))
         (λ e.
         omega (
           arith,

@@ -4,6 +4,7 @@ pub mod Check
 pub mod EachKind
 pub mod StepParts
 pub mod StepsOk
+pub mod Codes
 pub mod Count
 pub mod Placing
 pub mod Targets
@@ -11,6 +12,7 @@ pub mod Ties
 pub mod Writes
 pub mod Visits
 pub mod Numbers
+pub mod Tame
 pub mod Pure
 pub mod Streams
 pub mod Right
@@ -45,3 +47,4 @@ pub mod OutBounds
 pub mod NameBounds
 pub mod MarkersRun
 pub mod Accepted
+pub mod Lookups

@@ -10,9 +10,8 @@ use lib.ListN.{length, getD}
 use Rattle.tables.specs.Record.{words}
 use Rattle.tables.specs.Forest.{Forest, children}
 use Rattle.pool.specs.Value.{Const}
-use Rattle.pool.specs.Names.{Semantic}
 use Rattle.rules.specs.Marker.{Way, Break, Continue, Op, Label, Leave, Mark, mark}
-use Rattle.rules.specs.Run.{Loop, loop, Stream}
+use Rattle.rules.specs.Run.{Lookup, Loop, loop, Stream}
 use Rattle.rules.specs.Out.{operand-word}
 use Rattle.rules.specs.Around.{Around}
 use Rattle.rules.specs.Demand.{code, operand, Loops, Opened, first, next, continue-of, break-of, no-loop, record-of, writer}
@@ -105,7 +104,8 @@ module _ (cs : List Const) (k : Forest) (log : List Loop) (n : ℕ) (xs : List M
       go (yes h) = omega (arith, right .apart l, kept-back l log [], inside-at 0 n l (omega arith) (omega arith))
       go (no h) = omega (arith, right .apart l, kept-back l log [], inside-above 0 n l (omega arith))
 
-  pub continues-right : (i j : ℕ) → i < j → j < length (reverseAux log []) → continue-of (getD (reverseAux log []) i no-loop) ≡ continue-of (getD (reverseAux log []) j no-loop) → ⊥
+  pub continues-right : (i j : ℕ) → i < j → j < length (reverseAux log []) → continue-of (getD (reverseAux log []) i no-loop) ≡ continue-of (getD (reverseAux log []) j
+      no-loop) → ⊥
   continues-right = continues-apart (reverseAux log []) kept-once
 
   pub breaks-right : (i j : ℕ) → i < j → j < length (reverseAux log []) → break-of (getD (reverseAux log []) i no-loop) ≡ break-of (getD (reverseAux log []) j no-loop) → ⊥

@@ -9,13 +9,15 @@ use native.Mathlib.Decide.{ℕ-discrete, decLe}
 use lib.ListN.{length, getD, List·getD-eq-default}
 use lib.Dec.{T}
 use Rattle.opcode.specs.Kinds.{operandKind}
-use Rattle.tables.specs.Record.{Words, is-do}
+use Rattle.tables.specs.Record.{Words, is-do, is-ident}
 use Rattle.tables.specs.Forest.{Forest, none, tree, own-tree}
 use Rattle.tables.proofs.ForestLaws.{and-l, and-r, Each, each, each-at}
 use Rattle.pool.specs.Value.{Value, Const, function}
-use Rattle.pool.specs.Names.{Semantic, Names, no-names, Upvalue, names, names-upto, parent, Access, local, global, upvalue, missing}
+use Rattle.tables.specs.declared.refusal.RunRule.the-variants.{Reference}
+use Rattle.pool.specs.Names.{Semantic, Names, no-names, Upvalue, names, names-upto, parent, Access, local, global, upvalue, missing, load as load-name, store as store-name}
 use Rattle.pool.proofs.NameUpto.{names-length}
 use Rattle.pool.proofs.NamesLaws.{InTable, load-inside, store-inside, Captures, capture-inside, parent-is}
+use Rattle.rules.specs.declared.StackCode.{StackCode}
 use Rattle.rules.specs.Marker.{
   Forward,
   Jump,
@@ -89,19 +91,19 @@ use Rattle.rules.specs.Step.{
   Get,
   Set,
   Step,
-  say,
-  put,
-  take,
+  push-op,
+  push-const,
+  get-label,
   place,
   jump,
-  back,
+  jump-back,
   visit,
-  enter,
-  leave,
+  begin-loop,
+  end-loop,
   exit,
-  bar,
-  seek,
-  stop,
+  check-return,
+  access,
+  refuse,
   inner,
   expr,
   load,
@@ -113,7 +115,8 @@ use Rattle.rules.specs.Out.{consts, code-word, operand-word}
 use Rattle.rules.specs.Demand.{code, operand, WithinFound, Captured, no-upvalue}
 use Rattle.rules.proofs.Segment.{Seg, no-seg, sought-marks, leaving, seg-code, Segs, no-segs, child-seg, seg-alg, segs-of, seg-of, body-seg}
 use Rattle.rules.proofs.StepsOk.{function-only}
-use Rattle.rules.proofs.Pure.{no-name, no-function, pure, steps-pure}
+use Rattle.rules.proofs.Tame.{no-name, no-function, pure}
+use Rattle.rules.proofs.Pure.{steps-pure}
 use Rattle.rules.proofs.OnWords.{op-of, blank, words-of, code-at, operand-at}
 use Rattle.rules.proofs.ConstPlaces.{LoadsAt, load-inside as const-inside}
 
@@ -234,9 +237,13 @@ leaving-named : (ns : Names) (r : ℕ) (x : Way) (ls : List Loop) → AllNamed n
 leaving-named ns r x [] = tt
 leaving-named ns r x (loop o c b ∷ ls) = (tt, tt)
 
+if-inside : (ns : Names) (b : Bool) (x : Access) → InTable ns x → InTable ns (cond b x (missing Reference))
+if-inside ns true x h = h
+if-inside ns false x h = tt
+
 look-inside : (t : Semantic) (fn : Words) (u : Use) (x : Spot) → InTable (names t (fn .p)) (look t fn u x)
-look-inside t fn Get (here r w) = load-inside t (fn .p) (w .p)
-look-inside t fn Set (here r w) = store-inside t (fn .p) (w .p)
+look-inside t fn Get (here r w) = if-inside (names t (fn .p)) (is-ident w) (load-name t (fn .p) (w .p)) (load-inside t (fn .p) (w .p))
+look-inside t fn Set (here r w) = if-inside (names t (fn .p)) (is-ident w) (store-name t (fn .p) (w .p)) (store-inside t (fn .p) (w .p))
 look-inside t fn Get nowhere = tt
 look-inside t fn Set nowhere = tt
 
@@ -245,58 +252,59 @@ module _ (t : Semantic) (fn : Words) (r : ℕ) (w : Words) (k : Forest) (ks : Ro
   abbrev ns : Names
   ns = names t (fn .p)
 
-  steps-named : (is : List Step) → T (pure is) → (env : List ℕ) (b : ℕ) (ls : List Loop) → AllNamed ns (seg-code t fn r w k ks body is env b ls)
+  steps-named : (is : List Step) → T (pure is) → (env : List ℕ) (b : ℕ) (ls : List Loop) → AllNamed ns (seg-code (look t) fn r w k ks body is env b ls)
   unfolding seg-code pure
   steps-named [] q env b ls = tt
-  steps-named (say c x ∷ is) q env b ls = (plain-named ns c x (and-l (no-name c) (pure is) q), steps-named is (and-r (no-name c) (pure is) q) env b ls)
-  steps-named (put c p v ∷ is) q env b ls = (tt, steps-named is (and-r (no-function v) (pure is) q) env b ls)
-  steps-named (take ∷ is) q env b ls = steps-named is q (env ++ (b ∷ [])) (suc b) ls
+  steps-named (push-op c x ∷ is) q env b ls = (plain-named ns c x (and-l (no-name c) (pure is) q), steps-named is (and-r (no-name c) (pure is) q) env b ls)
+  steps-named (push-const c p v ∷ is) q env b ls = (tt, steps-named is (and-r (no-function v) (pure is) q) env b ls)
+  steps-named (get-label ∷ is) q env b ls = steps-named is q (env ++ (b ∷ [])) (suc b) ls
   steps-named (place i ∷ is) q env b ls = (tt, steps-named is q env b ls)
   steps-named (jump h i ∷ is) q env b ls = (tt, steps-named is q env b ls)
-  steps-named (back i ∷ is) q env b ls = (tt, steps-named is q env b ls)
+  steps-named (jump-back i ∷ is) q env b ls = (tt, steps-named is q env b ls)
   steps-named (visit y a j ∷ is) q env b ls = named-append ns (ks a j .code b ls) _ (at a j b ls) (steps-named is q env (b + ks a j .count) ls)
-  steps-named (enter i j ∷ is) q env b ls = steps-named is q env b (loop r (getD env i 0) (getD env j 0) ∷ ls)
-  steps-named (leave ∷ is) q env b ls = steps-named is q env b (drop1 ls)
+  steps-named (begin-loop i j ∷ is) q env b ls = steps-named is q env b (loop r (getD env i 0) (getD env j 0) ∷ ls)
+  steps-named (end-loop ∷ is) q env b ls = steps-named is q env b (drop1 ls)
   steps-named (exit x ∷ is) q env b ls = named-append ns (leaving r x ls) _ (leaving-named ns r x ls) (steps-named is q env b ls)
-  steps-named (bar ∷ is) q env b ls = steps-named is q env b ls
-  steps-named (seek u p ∷ is) q env b ls =
+  steps-named (check-return ∷ is) q env b ls = steps-named is q env b ls
+  steps-named (access u p ∷ is) q env b ls =
       let x = spot-at (tree r w k none) p in
       named-append ns (sought-marks r u (look t fn u x)) _ (sought-named ns r u (look t fn u x) (look-inside t fn u x)) (steps-named is q env b ls)
-  steps-named (stop x ∷ is) q env b ls = steps-named is q env b ls
+  steps-named (refuse x ∷ is) q env b ls = steps-named is q env b ls
   steps-named (inner ∷ is) q env b ls = absurd q
 
-module _ (t : Semantic) where
+module _ (sc : StackCode) (t : Semantic) where
   abbrev Inside : Segs → Type 0
   Inside g = (a : Role) (fn : Words) (b : ℕ) (ls : List Loop) → AllNamed (names t (fn .p)) (g a fn .code b ls)
 
-  children-named : (k : Forest) → Each (λ r w k. Inside (seg-of t r w k)) k → (fn : Words) (a : Role) (j b : ℕ) (ls : List Loop)
-      → AllNamed (names t (fn .p)) (child-seg (segs-of t k) fn a j .code b ls)
-  children-named k h fn a j = each-at (seg-alg t) (seg-alg t) (λ x y. Inside x) no-segs no-segs (λ a fn b ls. tt) k h j a fn
+  children-named : (k : Forest) → Each (λ r w k. Inside (seg-of sc (look t) r w k)) k → (fn : Words) (a : Role) (j b : ℕ) (ls : List Loop)
+      → AllNamed (names t (fn .p)) (child-seg (segs-of sc (look t) k) fn a j .code b ls)
+  children-named k h fn a j = each-at (seg-alg sc (look t)) (seg-alg sc (look t)) (λ x y. Inside x) no-segs no-segs (λ a fn b ls. tt) k h j a fn
 
-  record-named : (r : ℕ) (w : Words) (k : Forest) → Each (λ r w k. Inside (seg-of t r w k)) k → Inside (seg-of t r w k)
+  record-named : (r : ℕ) (w : Words) (k : Forest) → Each (λ r w k. Inside (seg-of sc (look t) r w k)) k → Inside (seg-of sc (look t) r w k)
   unfolding seg-code
   record-named r w k h a fn b ls = go (ℕ-discrete (w .kind) 30)
     where
       ks : Role → ℕ → Seg
-      ks = child-seg (segs-of t k) fn
+      ks = child-seg (segs-of sc (look t) k) fn
 
-      own : (d : Bool) → AllNamed (names t (fn .p)) (seg-code t fn r w k ks (body-seg t r w k)
-          (cond d (inner ∷ load (function (w .p)) ∷ say Call 0 ∷ []) (inner ∷ load (function (w .p)) ∷ [])) [] b ls)
+      own : (d : Bool) → AllNamed (names t (fn .p)) (seg-code (look t) fn r w k ks (body-seg sc (look t) r w k)
+          (cond d (inner ∷ load (function (w .p)) ∷ push-op Call 0 ∷ []) (inner ∷ load (function (w .p)) ∷ [])) [] b ls)
       own true = (tt, (tt, tt))
       own false = (tt, tt)
 
-      go : Dec (w .kind ≡ 30) → AllNamed (names t (fn .p)) (seg-code t fn r w k ks (body-seg t r w k) (steps a w (own-tree k)) [] b ls)
+      go : Dec (w .kind ≡ 30) → AllNamed (names t (fn .p)) (seg-code (look t) fn r w k ks (body-seg sc (look t) r w k) (steps sc a w (own-tree k)) [] b ls)
       go (yes e) =
-          function-only (λ is. AllNamed (names t (fn .p)) (seg-code t fn r w k ks (body-seg t r w k) is [] b ls)) a w (own-tree k) e tt (own (is-do w))
-      go (no ne) = steps-named t fn r w k ks (body-seg t r w k) (children-named k h fn) (steps a w (own-tree k)) (steps-pure a w (own-tree k) ne) [] b ls
+          function-only (λ is. AllNamed (names t (fn .p)) (seg-code (look t) fn r w k ks (body-seg sc (look t) r w k) is [] b ls)) sc a w (own-tree k) e tt (own (is-do w))
+      go (no ne) = steps-named t fn r w k ks (body-seg sc (look t) r w k) (children-named k h fn) (steps sc a w (own-tree k)) (steps-pure sc a w (own-tree k) ne) [] b ls
 
   -- a function's own stream
-  pub body-named : (r : ℕ) (w : Words) (k : Forest) (b : ℕ) (ls : List Loop) → AllNamed (names t (w .p)) (body-seg t r w k .code b ls)
+  pub body-named : (r : ℕ) (w : Words) (k : Forest) (b : ℕ) (ls : List Loop) → AllNamed (names t (w .p)) (body-seg sc (look t) r w k .code b ls)
   unfolding pure
   body-named r w k b ls =
-      steps-named t w r w k (child-seg (segs-of t k) w) no-seg (children-named k (each (λ r w k. Inside (seg-of t r w k)) record-named k) w) (stream-steps w) (go (is-do w)) [] b ls
+      steps-named t w r w k (child-seg (segs-of sc (look t) k) w) no-seg (children-named k (each (λ r w k. Inside (seg-of sc (look t) r w k)) record-named k) w)
+      (stream-steps w) (go (is-do w)) [] b ls
     where
-      go : (d : Bool) → T (pure (cond d (expr 0 ∷ expr 1 ∷ say Pop 0 ∷ say LoadLocals 0 ∷ say Return 0 ∷ []) (expr 0 ∷ expr 1 ∷ say Return 0 ∷ [])))
+      go : (d : Bool) → T (pure (cond d (expr 0 ∷ expr 1 ∷ push-op Pop 0 ∷ push-op LoadLocals 0 ∷ push-op Return 0 ∷ []) (expr 0 ∷ expr 1 ∷ push-op Return 0 ∷ [])))
       go true = tt
       go false = tt
 

@@ -8,14 +8,37 @@ use lib.Dec.{T, eqb, eqb→eq}
 use Rattle.tables.specs.Record.{Words, words, is-do}
 use Rattle.tables.specs.Forest.{Forest, none, tree, children, own-tree}
 use Rattle.tables.proofs.ForestLaws.{Each, each, each-at}
-use Rattle.pool.specs.Names.{Semantic, Access, local, global, upvalue, missing}
+use Rattle.pool.specs.Names.{Access, local, global, upvalue, missing}
+use Rattle.rules.specs.declared.StackCode.{StackCode}
 use Rattle.rules.specs.Marker.{Way, Mark}
-use Rattle.rules.specs.Step.{Role, Keep, pass, keep, Use, Step, say, put, take, place, jump, back, visit, enter, leave, exit, bar, seek, stop, inner}
+use Rattle.rules.specs.Step.{
+  Role,
+  Keep,
+  pass,
+  keep,
+  Use,
+  Step,
+  push-op,
+  push-const,
+  get-label,
+  place,
+  jump,
+  jump-back,
+  visit,
+  begin-loop,
+  end-loop,
+  exit,
+  check-return,
+  access,
+  refuse,
+  inner,
+}
 use Rattle.rules.specs.Arms.{stream-steps}
 use Rattle.rules.specs.Kinds.{steps}
 use Rattle.rules.specs.declared.Flow.{Flow}
 use Rattle.rules.specs.declared.Flow.the-variants.{Go, Cut, Refused}
 use Rattle.rules.specs.Run.{
+  Lookup,
   Loop,
   loop,
   Stream,
@@ -34,7 +57,6 @@ use Rattle.rules.specs.Run.{
   barred,
   number-of,
   spot-at,
-  look,
   sought,
   settle,
   kept,
@@ -180,22 +202,22 @@ nested-meets true r w v h (st m l ls os Go e) = entered-meets (eqb (w .p) (e .me
 nested-meets true r w v h (st m l ls os (Cut k a b) e) = met-none e e refl refl
 nested-meets true r w v h (st m l ls os (Refused n q) e) = met-none e e refl refl
 
-module _ (t : Semantic) (o : Mode) (fn : Words) (r : ℕ) (w : Words) (k : Forest) (vs : Role → ℕ → State → State) (body : State → State)
+module _ (t : Lookup) (o : Mode) (fn : Words) (r : ℕ) (w : Words) (k : Forest) (vs : Role → ℕ → State → State) (body : State → State)
     (child-meets : (x : Role) (j : ℕ) → Meets (vs x j)) (body-meets : Meets body) where
   act-meets : (x : Step) (env : List ℕ) → Meets (act t o fn r w k vs body x env)
-  act-meets (say c x) env s = same-side (emit-side _ s)
-  act-meets (put c p v) env s = same-side (emit-side _ s)
-  act-meets take env s = same-side (bump-side s)
+  act-meets (push-op c x) env s = same-side (emit-side _ s)
+  act-meets (push-const c p v) env s = same-side (emit-side _ s)
+  act-meets get-label env s = same-side (bump-side s)
   act-meets (place i) env s = same-side (emit-side _ s)
   act-meets (jump h i) env s = same-side (emit-side _ s)
-  act-meets (back i) env s = same-side (emit-side _ s)
+  act-meets (jump-back i) env s = same-side (emit-side _ s)
   act-meets (visit y x j) env s = keeping-meets y (vs x j) (child-meets x j) s
-  act-meets (enter i j) env s = same-side (begin-side _ _ s)
-  act-meets leave env s = same-side (finish-side s)
+  act-meets (begin-loop i j) env s = same-side (begin-side _ _ s)
+  act-meets end-loop env s = same-side (finish-side s)
   act-meets (exit x) env s = same-side (outward-side r w x s)
-  act-meets bar env s = same-side (barred-side w (is-do fn) s)
-  act-meets (seek u p) env s = same-side (sought-side r u (number-of (spot-at (tree r w k none) p)) (look t fn u (spot-at (tree r w k none) p)) s)
-  act-meets (stop x) env s = same-side (halt-side _ s)
+  act-meets check-return env s = same-side (barred-side w (is-do fn) s)
+  act-meets (access u p) env s = same-side (sought-side r u (number-of (spot-at (tree r w k none) p)) (t fn u (spot-at (tree r w k none) p)) s)
+  act-meets (refuse x) env s = same-side (halt-side _ s)
   act-meets inner env s = nested-meets (o .nest) r w body body-meets s
 
   exec-meets : (is : List Step) (env : List ℕ) → Meets (exec t o fn r w k vs body is env)
@@ -203,7 +225,7 @@ module _ (t : Semantic) (o : Mode) (fn : Words) (r : ℕ) (w : Words) (k : Fores
   exec-meets [] env s = met-none (side s) (side s) refl refl
   exec-meets (x ∷ is) env s = met-both (side s) _ _ (act-meets x env s) (exec-meets is _ (act t o fn r w k vs body x env s))
 
-module _ (t : Semantic) (o : Mode) where
+module _ (t : Lookup) (o : Mode) where
   abbrev Meets-all : Visit → Type 0
   Meets-all v = (a : Role) (fn : Words) → Meets (v a fn)
 
@@ -217,7 +239,8 @@ module _ (t : Semantic) (o : Mode) where
 
   visit-step : (r : ℕ) (w : Words) (k : Forest) → Each (λ r w k. Meets-all (visit-of t o r w k)) k → Meets-all (visit-of t o r w k)
   visit-step r w k h a fn =
-      exec-meets t o fn r w k (child-visit (visits-of t o k) fn) (stream t o r w k (visits-of t o k)) (children-meet k h fn) (stream-step r w k h) (steps a w (own-tree k)) []
+      exec-meets t o fn r w k (child-visit (visits-of t o k) fn) (stream t o r w k (visits-of t o k)) (children-meet k h fn) (stream-step r w k h) (steps (o .code) a w
+      (own-tree k)) []
 
   pub visit-meets : (r : ℕ) (w : Words) (k : Forest) (a : Role) (fn : Words) → Meets (visit-of t o r w k a fn)
   visit-meets r w k = visit-step r w k (each (λ r w k. Meets-all (visit-of t o r w k)) visit-step k)
@@ -226,12 +249,12 @@ module _ (t : Semantic) (o : Mode) where
   stream-meets r w k = stream-step r w k (each (λ r w k. Meets-all (visit-of t o r w k)) visit-step k)
 
 -- "for each function met, always the lowest numbers": each number below the functions met has one stream, and no other has any; in every run
-pub run-numbered : (t : Semantic) (recs : List ℕ) (n : ℕ) → numbered n ((side (run t recs)) .streams) ≡ inside 0 ((side (run t recs)) .met) n
+pub run-numbered : (sc : StackCode) (t : Lookup) (recs : List ℕ) (n : ℕ) → numbered n ((side (run sc t recs)) .streams) ≡ inside 0 ((side (run sc t recs)) .met) n
 unfolding run
-run-numbered t recs n =
+run-numbered sc t recs n =
     let w = words recs 0 in
     let k = children recs 0 in
-    let h = nested-meets true 0 w (stream t full 0 w k (visits-of t full k)) (stream-meets t full 0 w k) nothing in
+    let h = nested-meets true 0 w (stream t (full sc) 0 w k (visits-of t (full sc) k)) (stream-meets t (full sc) 0 w k) nothing in
     omega (arith, h .by-number n, ap (λ z. inside 0 z n) (h .count ∙ zero-more (h .more)))
   where
     zero-more : (m : ℕ) → 0 + m ≡ m

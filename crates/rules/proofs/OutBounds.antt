@@ -12,8 +12,9 @@ use borrow.Author.Tests.{eq-eqb, ne-eqb}
 use Rattle.tables.specs.Forest.{root, count}
 use Rattle.pool.specs.Value.{Const}
 use Rattle.pool.specs.Names.{Semantic}
+use Rattle.rules.specs.declared.StackCode.{StackCode}
 use Rattle.rules.specs.Marker.{Mark, mark}
-use Rattle.rules.specs.Run.{Error, error, Stream, side, run}
+use Rattle.rules.specs.Run.{Lookup, look, Error, error, Stream, side, run}
 use Rattle.rules.specs.Out.{consts, code-word, operand-word, marker-words, const-words, error-words, line-words, stream-of, each-function, out}
 use Rattle.rules.proofs.Count.{one, inside-at}
 use Rattle.rules.proofs.Numbers.{numbered, run-numbered}
@@ -75,15 +76,15 @@ module _ (f : Stream → ℕ) where
       go false p ih = ih (omega arith)
 
   -- the functions met, in order of their numbers, are no more together than all streams
-  pub by-number : (t : Semantic) (recs : List ℕ) (m : ℕ) → m ≤ side (run t recs) .met
-      → sum m (λ n. f (stream-of (side (run t recs) .streams) n)) ≤ total f (side (run t recs) .streams)
-  by-number t recs m p =
-      let xs = side (run t recs) .streams in
+  pub by-number : (sc : StackCode) (t : Lookup) (recs : List ℕ) (m : ℕ) → m ≤ side (run sc t recs) .met
+      → sum m (λ n. f (stream-of (side (run sc t recs) .streams) n)) ≤ total f (side (run sc t recs) .streams)
+  by-number sc t recs m p =
+      let xs = side (run sc t recs) .streams in
       omega (
         arith,
         found-most xs m,
         sum-same m (found xs) (λ n. f (stream-of xs n))
-            (λ n q. found-one xs n (omega (arith, run-numbered t recs n, inside-at 0 (side (run t recs) .met) n (omega arith) (omega arith)))),
+            (λ n q. found-one xs n (omega (arith, run-numbered sc t recs n, inside-at 0 (side (run sc t recs) .met) n (omega arith) (omega arith)))),
       )
 
 each-length : (f : Stream → List ℕ) (xs : List Stream) (m : ℕ) → length (each-function f xs m) ≡ sum m (λ n. length (f (stream-of xs n)))
@@ -120,29 +121,29 @@ lines-total t recs xs zero = refl
 lines-total t recs xs (suc m) = omega (arith, lines-total t recs xs m)
 
 -- the words of the first m functions met, and of the whole listing
-pub record OutBounds (t : Semantic) (recs : List ℕ) : Type 0 where
-  pub first-markers : (m : ℕ) → m ≤ side (run t recs) .met
-      → length (each-function (λ x. marker-words (consts (x .marks)) (x .marks) []) (side (run t recs) .streams) m) ≤ 2 * (32 * count (root recs))
-  pub first-constants : (m : ℕ) → m ≤ side (run t recs) .met
-      → length (each-function (λ x. const-words (consts (x .marks))) (side (run t recs) .streams) m) ≤ 3 * (3 * count (root recs))
-  pub markers : length (out t recs (side (run t recs)) .markers) ≤ 2 * (32 * count (root recs))
-  pub constants : length (out t recs (side (run t recs)) .constants) ≤ 3 * (3 * count (root recs))
-  pub errors : length (out t recs (side (run t recs)) .errors) ≤ 3 * count (root recs)
-  pub lines : length (out t recs (side (run t recs)) .lines) ≡ 7 * side (run t recs) .met
-  pub functions : side (run t recs) .met ≤ function-count (root recs)
+pub record OutBounds (sc : StackCode) (t : Semantic) (recs : List ℕ) : Type 0 where
+  pub first-markers : (m : ℕ) → m ≤ side (run sc (look t) recs) .met
+      → length (each-function (λ x. marker-words (consts (x .marks)) (x .marks) []) (side (run sc (look t) recs) .streams) m) ≤ 2 * (32 * count (root recs))
+  pub first-constants : (m : ℕ) → m ≤ side (run sc (look t) recs) .met
+      → length (each-function (λ x. const-words (consts (x .marks))) (side (run sc (look t) recs) .streams) m) ≤ 3 * (3 * count (root recs))
+  pub markers : length (out t recs (side (run sc (look t) recs)) .markers) ≤ 2 * (32 * count (root recs))
+  pub constants : length (out t recs (side (run sc (look t) recs)) .constants) ≤ 3 * (3 * count (root recs))
+  pub errors : length (out t recs (side (run sc (look t) recs)) .errors) ≤ 3 * count (root recs)
+  pub lines : length (out t recs (side (run sc (look t) recs)) .lines) ≡ 7 * side (run sc (look t) recs) .met
+  pub functions : side (run sc (look t) recs) .met ≤ function-count (root recs)
 
-pub out-bounds : (t : Semantic) (recs : List ℕ) → Bounds t recs → OutBounds t recs
-out-bounds t recs h =
-    let e = side (run t recs) in
+pub out-bounds : (sc : StackCode) (t : Semantic) (recs : List ℕ) → Bounds sc (look t) recs → OutBounds sc t recs
+out-bounds sc t recs h =
+    let e = side (run sc (look t) recs) in
     let xs = e .streams in
     let n = count (root recs) in
     let ms : Stream → List ℕ = λ x. marker-words (consts (x .marks)) (x .marks) [] in
     let cs : Stream → List ℕ = λ x. const-words (consts (x .marks)) in
     let ls : Stream → List ℕ = λ x. line-words t recs x in
     let m : (m : ℕ) → m ≤ e .met → length (each-function ms xs m) ≤ 2 * (32 * n) =
-    λ m p. omega (arith, each-length ms xs m, by-number (λ x. length (ms x)) t recs m p, markers-total xs, h .markers) in
+    λ m p. omega (arith, each-length ms xs m, by-number (λ x. length (ms x)) sc (look t) recs m p, markers-total xs, h .markers) in
     let c : (m : ℕ) → m ≤ e .met → length (each-function cs xs m) ≤ 3 * (3 * n) =
-    λ m p. omega (arith, each-length cs xs m, by-number (λ x. length (cs x)) t recs m p, constants-total xs, h .constants) in
+    λ m p. omega (arith, each-length cs xs m, by-number (λ x. length (cs x)) sc (look t) recs m p, constants-total xs, h .constants) in
     record {
       first-markers = m;
       first-constants = c;

@@ -10,9 +10,8 @@ use lib.Dec.{T}
 use Rattle.tables.specs.Record.{Words}
 use Rattle.tables.specs.Forest.{Forest, none, tree}
 use Rattle.tables.proofs.ForestLaws.{and-l, and-r}
-use Rattle.pool.specs.Names.{Semantic}
-use Rattle.rules.specs.Step.{Role, Step, say, put, take, place, jump, back, visit, enter, leave, exit, bar, seek, stop, inner}
-use Rattle.rules.specs.Run.{Loop, loop, drop1, spot-at, look}
+use Rattle.rules.specs.Step.{Role, Step, push-op, push-const, get-label, place, jump, jump-back, visit, begin-loop, end-loop, exit, check-return, access, refuse, inner}
+use Rattle.rules.specs.Run.{Lookup, Loop, loop, drop1, spot-at}
 use Rattle.rules.proofs.Segment.{Seg, no-seg, sought-marks, leaving, seg-code, seg-count, seg-log, step-seg}
 use Rattle.rules.proofs.Check.{has, del, Inside, outside, within, is-out, is-in, chk, none-left, sound-at, settled, ok, begun}
 use Rattle.rules.proofs.Count.{
@@ -54,15 +53,15 @@ kept-back l (loop o c b ∷ xs) ys = omega (arith, kept-back l xs (loop o c b �
 abbrev pub Kept-once : Seg → Type 0
 Kept-once g = (b l : ℕ) → kept-times l (g .log b) ≤ inside b (g .count) l
 
-module _ (t : Semantic) (fn : Words) (r : ℕ) (w : Words) (k : Forest) (ks : Role → ℕ → Seg) (body : Seg) (a : Bool) (good : (x : Role) (j : ℕ) → Placed (ks x j)) where
+module _ (t : Lookup) (fn : Words) (r : ℕ) (w : Words) (k : Forest) (ks : Role → ℕ → Seg) (body : Seg) (a : Bool) (good : (x : Role) (j : ℕ) → Placed (ks x j)) where
   -- env are the labels taken so far, pend the names still to be placed
   pub placed-run : (is : List Step) (env : List ℕ) (b : ℕ) (ls : List Loop) (n : ℕ) (pend done free : List ℕ) (lp : Inside) → length env ≡ n → Below n pend
       → T (ok a (chk n pend done free lp) is) → (l : ℕ) → placed l (seg-code t fn r w k ks body is env b ls) ≡ inside b (seg-count t fn r w k ks body is) l + pending env pend l
   unfolding seg-code seg-count ok inside
   placed-run [] env b ls n pend done free lp e u h l = omega (arith, none-pending env pend l (and-l (none-left pend) (is-out lp) h))
-  placed-run (say c x ∷ is) env b ls n pend done free lp e u h l = placed-run is env b ls n pend done free lp e u h l
-  placed-run (put c p v ∷ is) env b ls n pend done free lp e u h l = placed-run is env b ls n pend done free lp e u h l
-  placed-run (take ∷ is) env b ls n pend done free lp e u h l =
+  placed-run (push-op c x ∷ is) env b ls n pend done free lp e u h l = placed-run is env b ls n pend done free lp e u h l
+  placed-run (push-const c p v ∷ is) env b ls n pend done free lp e u h l = placed-run is env b ls n pend done free lp e u h l
+  placed-run (get-label ∷ is) env b ls n pend done free lp e u h l =
       let z = length-grown env b ∙ ap suc e in
       let ih = placed-run is (env ++ (b ∷ [])) (suc b) ls (suc n) (n ∷ pend) done (n ∷ free) lp z (omega arith, below-suc n pend u) (and-r (is-out lp) _ h) l in
       let p : pending (env ++ (b ∷ [])) pend l ≡ pending env pend l = pending-grown env b pend l (rw e u) in
@@ -74,7 +73,7 @@ module _ (t : Semantic) (fn : Words) (r : ℕ) (w : Words) (k : Forest) (ks : Ro
         pending-del env i pend l (and-l (has i pend) _ h),
       )
   placed-run (jump x i ∷ is) env b ls n pend done free lp e u h l = placed-run is env b ls n pend done free lp e u (and-r (has i pend) _ h) l
-  placed-run (back i ∷ is) env b ls n pend done free lp e u h l = placed-run is env b ls n pend done free lp e u (and-r (has i done) _ h) l
+  placed-run (jump-back i ∷ is) env b ls n pend done free lp e u h l = placed-run is env b ls n pend done free lp e u (and-r (has i done) _ h) l
   placed-run (visit y x j ∷ is) env b ls n pend done free lp e u h l =
       let c : ℕ = (ks x j) .count in
       omega (
@@ -84,10 +83,10 @@ module _ (t : Semantic) (fn : Words) (r : ℕ) (w : Words) (k : Forest) (ks : Ro
         placed-run is env (b + c) ls n pend done free lp e u (and-r (sound-at pend done lp && settled a lp) _ h) l,
         inside-add b c (seg-count t fn r w k ks body is) l,
       )
-  placed-run (enter i j ∷ is) env b ls n pend done free lp e u h l =
+  placed-run (begin-loop i j ∷ is) env b ls n pend done free lp e u h l =
       placed-run is env b (loop r (getD env i 0) (getD env j 0) ∷ ls) n pend done (del j (del i free)) (within i j) e u
       (and-r (is-out lp && (a && ((has i pend && has j pend) && (has i free && has j (del i free))))) _ h) l
-  placed-run (leave ∷ is) env b ls n pend done free lp e u h l = placed-run is env b (drop1 ls) n pend done free outside e u (and-r (is-in lp) _ h) l
+  placed-run (end-loop ∷ is) env b ls n pend done free lp e u h l = placed-run is env b (drop1 ls) n pend done free outside e u (and-r (is-in lp) _ h) l
   placed-run (exit x ∷ is) env b ls n pend done free lp e u h l =
       omega (
         arith,
@@ -95,32 +94,32 @@ module _ (t : Semantic) (fn : Words) (r : ℕ) (w : Words) (k : Forest) (ks : Ro
         placed-leaving l r x ls,
         placed-run is env b ls n pend done free lp e u (and-r (is-out lp) _ h) l,
       )
-  placed-run (bar ∷ is) env b ls n pend done free lp e u h l = placed-run is env b ls n pend done free lp e u h l
-  placed-run (seek v p ∷ is) env b ls n pend done free lp e u h l =
-      let x = look t fn v (spot-at (tree r w k none) p) in
+  placed-run (check-return ∷ is) env b ls n pend done free lp e u h l = placed-run is env b ls n pend done free lp e u h l
+  placed-run (access v p ∷ is) env b ls n pend done free lp e u h l =
+      let x = t fn v (spot-at (tree r w k none) p) in
       omega (arith, placed-append l (sought-marks r v x) (seg-code t fn r w k ks body is env b ls), placed-sought l r v x, placed-run is env b ls n pend done free lp e u h l)
-  placed-run (stop x ∷ is) env b ls n pend done free lp e u h l = placed-run is env b ls n pend done free lp e u h l
+  placed-run (refuse x ∷ is) env b ls n pend done free lp e u h l = placed-run is env b ls n pend done free lp e u h l
   placed-run (inner ∷ is) env b ls n pend done free lp e u h l = placed-run is env b ls n pend done free lp e u h l
 
   pub placed-steps : (is : List Step) → T (ok a begun is) → Placed (step-seg t fn r w k ks body is)
   placed-steps is h b ls l = omega (arith, placed-run is [] b ls 0 [] [] [] outside refl tt h l)
 
-module _ (t : Semantic) (fn : Words) (r : ℕ) (w : Words) (k : Forest) (ks : Role → ℕ → Seg) (body : Seg) (a : Bool) (good : (x : Role) (j : ℕ) → Kept-once (ks x j)) where
+module _ (t : Lookup) (fn : Words) (r : ℕ) (w : Words) (k : Forest) (ks : Role → ℕ → Seg) (body : Seg) (a : Bool) (good : (x : Role) (j : ℕ) → Kept-once (ks x j)) where
   -- free are the names that no loop has
   pub kept-run : (is : List Step) (env : List ℕ) (b n : ℕ) (pend done free : List ℕ) (lp : Inside) → length env ≡ n → Below n free
       → T (ok a (chk n pend done free lp) is) → (l : ℕ) → kept-times l (seg-log t fn r w k ks body is env b) ≤ inside b (seg-count t fn r w k ks body is) l + pending env free l
   unfolding seg-log seg-count ok inside
   kept-run [] env b n pend done free lp e u h l = omega arith
-  kept-run (say c x ∷ is) env b n pend done free lp e u h l = kept-run is env b n pend done free lp e u h l
-  kept-run (put c p v ∷ is) env b n pend done free lp e u h l = kept-run is env b n pend done free lp e u h l
-  kept-run (take ∷ is) env b n pend done free lp e u h l =
+  kept-run (push-op c x ∷ is) env b n pend done free lp e u h l = kept-run is env b n pend done free lp e u h l
+  kept-run (push-const c p v ∷ is) env b n pend done free lp e u h l = kept-run is env b n pend done free lp e u h l
+  kept-run (get-label ∷ is) env b n pend done free lp e u h l =
       let z = length-grown env b ∙ ap suc e in
       let ih = kept-run is (env ++ (b ∷ [])) (suc b) (suc n) (n ∷ pend) done (n ∷ free) lp z (omega arith, below-suc n free u) (and-r (is-out lp) _ h) l in
       let p : pending (env ++ (b ∷ [])) free l ≡ pending env free l = pending-grown env b free l (rw e u) in
       omega (arith, (rw (getD-at env b [] 0 n e) at ih), p)
   kept-run (place i ∷ is) env b n pend done free lp e u h l = kept-run is env b n (del i pend) (i ∷ done) free lp e u (and-r (has i pend) _ h) l
   kept-run (jump x i ∷ is) env b n pend done free lp e u h l = kept-run is env b n pend done free lp e u (and-r (has i pend) _ h) l
-  kept-run (back i ∷ is) env b n pend done free lp e u h l = kept-run is env b n pend done free lp e u (and-r (has i done) _ h) l
+  kept-run (jump-back i ∷ is) env b n pend done free lp e u h l = kept-run is env b n pend done free lp e u (and-r (has i done) _ h) l
   kept-run (visit y x j ∷ is) env b n pend done free lp e u h l =
       let c : ℕ = (ks x j) .count in
       omega (
@@ -130,7 +129,7 @@ module _ (t : Semantic) (fn : Words) (r : ℕ) (w : Words) (k : Forest) (ks : Ro
         kept-run is env (b + c) n pend done free lp e u (and-r (sound-at pend done lp && settled a lp) _ h) l,
         inside-add b c (seg-count t fn r w k ks body is) l,
       )
-  kept-run (enter i j ∷ is) env b n pend done free lp e u h l =
+  kept-run (begin-loop i j ∷ is) env b n pend done free lp e u h l =
       let g : Bool = has i free && has j (del i free) in
       let f : Bool = is-out lp && (a && ((has i pend && has j pend) && g)) in
       let x = and-r (has i pend && has j pend) g (and-r a _ (and-r (is-out lp) _ (and-l f _ h))) in
@@ -140,11 +139,11 @@ module _ (t : Semantic) (fn : Words) (r : ℕ) (w : Words) (k : Forest) (ks : Ro
         pending-del env j (del i free) l (and-r (has i free) _ x),
         kept-run is env b n pend done (del j (del i free)) (within i j) e (below-del n j (del i free) (below-del n i free u)) (and-r f _ h) l,
       )
-  kept-run (leave ∷ is) env b n pend done free lp e u h l = kept-run is env b n pend done free outside e u (and-r (is-in lp) _ h) l
+  kept-run (end-loop ∷ is) env b n pend done free lp e u h l = kept-run is env b n pend done free outside e u (and-r (is-in lp) _ h) l
   kept-run (exit x ∷ is) env b n pend done free lp e u h l = kept-run is env b n pend done free lp e u (and-r (is-out lp) _ h) l
-  kept-run (bar ∷ is) env b n pend done free lp e u h l = kept-run is env b n pend done free lp e u h l
-  kept-run (seek v p ∷ is) env b n pend done free lp e u h l = kept-run is env b n pend done free lp e u h l
-  kept-run (stop x ∷ is) env b n pend done free lp e u h l = kept-run is env b n pend done free lp e u h l
+  kept-run (check-return ∷ is) env b n pend done free lp e u h l = kept-run is env b n pend done free lp e u h l
+  kept-run (access v p ∷ is) env b n pend done free lp e u h l = kept-run is env b n pend done free lp e u h l
+  kept-run (refuse x ∷ is) env b n pend done free lp e u h l = kept-run is env b n pend done free lp e u h l
   kept-run (inner ∷ is) env b n pend done free lp e u h l = kept-run is env b n pend done free lp e u h l
 
   pub kept-steps : (is : List Step) → T (ok a begun is) → Kept-once (step-seg t fn r w k ks body is)
@@ -159,7 +158,7 @@ pub good-none : Good no-seg
 unfolding inside
 good-none = record { places = λ b ls l. refl; keeps = λ b l. omega arith }
 
-pub good-steps : (t : Semantic) (fn : Words) (r : ℕ) (w : Words) (k : Forest) (ks : Role → ℕ → Seg) (body : Seg) (a : Bool) → ((x : Role) (j : ℕ) → Good (ks x j))
+pub good-steps : (t : Lookup) (fn : Words) (r : ℕ) (w : Words) (k : Forest) (ks : Role → ℕ → Seg) (body : Seg) (a : Bool) → ((x : Role) (j : ℕ) → Good (ks x j))
     → (is : List Step) → T (ok a begun is) → Good (step-seg t fn r w k ks body is)
 good-steps t fn r w k ks body a good is h =
     record {

@@ -1,62 +1,18 @@
--- Only a Function's record runs a function and brings its constant, and names are named by load and store alone: every kind's steps, by one computed
--- test. Assumes nothing.
-use mathlib.Core.Path.{_≡_, refl, sym, ap, subst, _∙_}
-use mathlib.Core.Bool.{Bool, true, false, not, cond, _&&_, _||_}
+-- Only a Function's record runs a function and brings its constant, names are named by load and store alone, and no other operand is greater than the
+-- record's detail and the number of nodes below it: every kind's steps pass the tests. Assumes nothing.
+use mathlib.Core.Path.{_≡_, refl, sym, subst, _∙_}
+use mathlib.Core.Bool.{Bool, true, false, not, cond, _&&_}
 use mathlib.Core.List.{List, [], _∷_, _++_}
-use Prim.Native.Nat.{ℕ, zero, suc, _+_, _-_, _%_, _≤_, _<_}
+use Prim.Native.Nat.{ℕ, zero, suc, _+_, _-_, _/_, _%_, _≤_}
 use native.Mathlib.Omega.{arith}
-use lib.ListN.{getD}
+use native.Mathlib.Nat.{div-mul-le-self}
 use lib.Dec.{T, eqb, eqb→eq, ltb}
-use Rattle.tables.specs.Record.{Words, is-kind, is-function, is-do}
+use Rattle.tables.specs.Record.{Words, is-kind, is-do}
 use Rattle.tables.specs.Forest.{Nodes, bare, node}
-use Rattle.tables.proofs.ForestLaws.{and-l, and-r}
-use Rattle.pool.specs.Value.{Value, plain, effect, lit, function}
-use Rattle.rules.specs.Marker.{
-  Code,
-  Jump,
-  PopJumpIfFalse,
-  JumpPopIfNull,
-  LoadConst,
-  Pop,
-  Copy,
-  Swap,
-  LoadLocal,
-  LoadGlobal,
-  LoadUpvalue,
-  StoreLocal,
-  StoreGlobal,
-  BuildTable,
-  BuildList,
-  GetAttr,
-  GetItem,
-  GetMeta,
-  SetAttr,
-  SetItem,
-  SetMeta,
-  Neg,
-  Not,
-  Add,
-  Sub,
-  Mul,
-  Div,
-  Rem,
-  Eq,
-  Ne,
-  Gt,
-  Ge,
-  Lt,
-  Le,
-  TypeCheck,
-  GetLen,
-  ImportGlob,
-  Iter,
-  Call,
-  Return,
-  ReturnCall,
-  LoadLocals,
-  CheckEffect,
-  MarkAddStackSize,
-}
+use Rattle.pool.specs.Value.{lit, below}
+use Rattle.rules.specs.declared.StackCode.{StackCode}
+use Rattle.rules.specs.declared.StackCode.the-variants.{Code1, Code2}
+use Rattle.rules.specs.Marker.{Code, Jump, JumpPopIfNull, Pop, Copy, Swap, BuildTable, BuildList, Call, ReturnCall}
 use Rattle.rules.specs.Step.{
   Role,
   Expr,
@@ -67,31 +23,26 @@ use Rattle.rules.specs.Step.{
   After,
   Set,
   Step,
-  say,
-  put,
-  take,
+  push-op,
+  get-label,
   place,
   jump,
-  back,
-  visit,
-  enter,
-  leave,
-  exit,
-  bar,
-  seek,
-  stop,
-  inner,
+  jump-back,
+  end-loop,
+  access,
   expr,
   null,
   visits,
   visits-down,
   stores-down,
-  takes,
-  says,
+  get-labels,
+  push-ops,
   width,
 }
 use Rattle.rules.specs.Arms.{
   lit-steps,
+  table-steps,
+  list-steps,
   binary-steps,
   assign-op-steps,
   assign-unpack-steps,
@@ -105,9 +56,9 @@ use Rattle.rules.specs.Arms.{
   get-code,
   set-code,
   property,
-  safe-jump,
   is-method,
   method-steps,
+  unlabelled,
   member-steps,
   arguments,
   handlers,
@@ -116,13 +67,14 @@ use Rattle.rules.specs.Arms.{
   call-with,
   call-steps,
   items-stored,
-  for-targets,
   for-steps,
   is-tail,
+  return-steps,
   simple-import,
   import-steps,
   unpacked,
-  function-steps,
+  stream-steps,
+  handler-steps,
   target-steps,
   before-steps,
   after-steps,
@@ -150,376 +102,338 @@ use Rattle.rules.specs.Patterns.{
   case-tests,
   case-labels,
   cases-tests,
-  match-cases,
   match-steps,
 }
 use Rattle.rules.specs.Kinds.{Kind, kinds, steps-of, steps}
 use Rattle.rules.proofs.EachKind.{EachKind, no-more, _also_}
+use Rattle.rules.proofs.Tame.{
+  no-function,
+  no-name,
+  pure,
+  both,
+  held-by,
+  tame,
+  tame-pure,
+  tally,
+  width-most,
+  below-most,
+  arguments-most,
+  Modest,
+  held,
+  lit-pure,
+  get-pure,
+  set-pure,
+  unary-pure,
+  binary-pure,
+  coded,
+}
 
--- a constant that is no Function
-abbrev pub no-function : Value → Bool
-no-function (plain k p q) = not (eqb k 6)
-no-function (effect n ps v) = true
+module _ (top : ℕ) where
+  abbrev Tame : List Step → Type 0
+  Tame is = T (tame top is)
 
--- an opcode that names no local, global or upvalue
-abbrev pub no-name : Code → Bool
-no-name Pop = true
-no-name Copy = true
-no-name Swap = true
-no-name LoadLocal = false
-no-name LoadGlobal = false
-no-name LoadUpvalue = false
-no-name StoreLocal = false
-no-name StoreGlobal = false
-no-name BuildTable = true
-no-name BuildList = true
-no-name GetAttr = true
-no-name GetItem = true
-no-name GetMeta = true
-no-name SetAttr = true
-no-name SetItem = true
-no-name SetMeta = true
-no-name Neg = true
-no-name Not = true
-no-name Add = true
-no-name Sub = true
-no-name Mul = true
-no-name Div = true
-no-name Rem = true
-no-name Eq = true
-no-name Ne = true
-no-name Gt = true
-no-name Ge = true
-no-name Lt = true
-no-name Le = true
-no-name TypeCheck = true
-no-name GetLen = true
-no-name ImportGlob = true
-no-name Iter = true
-no-name Call = true
-no-name Return = true
-no-name ReturnCall = true
-no-name LoadLocals = true
-no-name CheckEffect = true
-no-name MarkAddStackSize = true
+  either : (b : Bool) (x y : List Step) → Tame x → Tame y → Tame (cond b x y)
+  either true x y p q = p
+  either false x y p q = q
 
--- no step of a list runs or brings a Function, or names a name but by load or store
-unfoldable pub pure : List Step → Bool
-pure [] = true
-pure (say c x ∷ is) = no-name c && pure is
-pure (put c p v ∷ is) = no-function v && pure is
-pure (take ∷ is) = pure is
-pure (place i ∷ is) = pure is
-pure (jump h i ∷ is) = pure is
-pure (back i ∷ is) = pure is
-pure (visit y a j ∷ is) = pure is
-pure (enter i j ∷ is) = pure is
-pure (leave ∷ is) = pure is
-pure (exit x ∷ is) = pure is
-pure (bar ∷ is) = pure is
-pure (seek u p ∷ is) = pure is
-pure (stop x ∷ is) = pure is
-pure (inner ∷ is) = false
+  visits-tame : (a : Role) (j n : ℕ) (is : List Step) → Tame is → Tame (visits a j n is)
+  unfolding tame
+  visits-tame a j zero is t = t
+  visits-tame a j (suc n) is t = visits-tame a (suc j) n is t
 
-abbrev Pure : List Step → Type 0
-Pure is = T (pure is)
+  visits-down-tame : (a : Role) (n : ℕ) (is : List Step) → Tame is → Tame (visits-down a n is)
+  unfolding tame
+  visits-down-tame a zero is t = t
+  visits-down-tame a (suc n) is t = visits-down-tame a n is t
 
-both : (a b : Bool) → T a → T b → T (a && b)
-both true b p q = q
-both false b p q = p
+  stores-down-tame : (n : ℕ) (is : List Step) → Tame is → Tame (stores-down n is)
+  unfolding tame
+  stores-down-tame zero is t = t
+  stores-down-tame (suc n) is t = stores-down-tame n is t
 
-either : (b : Bool) (x y : List Step) → Pure x → Pure y → Pure (cond b x y)
-either true x y p q = p
-either false x y p q = q
+  get-labels-tame : (n : ℕ) (is : List Step) → Tame is → Tame (get-labels n is)
+  unfolding tame
+  get-labels-tame zero is t = t
+  get-labels-tame (suc n) is t = get-labels-tame n is t
 
-lit-pure : (d p q : ℕ) → T (no-function (lit d p q))
-lit-pure zero p q = tt
-lit-pure (suc zero) p q = tt
-lit-pure (suc (suc zero)) p q = tt
-lit-pure (suc (suc (suc zero))) p q = tt
-lit-pure (suc (suc (suc (suc zero)))) p q = tt
-lit-pure (suc (suc (suc (suc (suc d))))) p q = tt
+  push-ops-tame : (n : ℕ) (c : Code) (x : ℕ) (is : List Step) → T (no-name c) → T (held-by top x) → Tame is → Tame (push-ops n c x is)
+  unfolding tame
+  push-ops-tame zero c x is u v t = t
+  push-ops-tame (suc n) c x is u v t = both (no-name c) _ u (both (held-by top x) _ v (push-ops-tame n c x is u v t))
 
--- a code from a table of codes that name none
-abbrev AllPlain : List Code → Type 0
-AllPlain [] = Unit {0}
-AllPlain (c ∷ cs) = T (no-name c) × AllPlain cs
+  registers-tame : (i j n : ℕ) (is : List Step) → Tame is → Tame (registers i j n is)
+  unfolding tame
+  registers-tame i j zero is t = t
+  registers-tame i j (suc n) is t = registers-tame (suc i) (suc j) n is t
 
-code-pure : (cs : List Code) → AllPlain cs → (d : Code) → T (no-name d) → (n : ℕ) → T (no-name (getD cs n d))
-code-pure [] h d u n = u
-code-pure (c ∷ cs) (h, hs) d u zero = h
-code-pure (c ∷ cs) (h, hs) d u (suc n) = code-pure cs hs d u n
+  bodies-tame : (i j n : ℕ) (is : List Step) → Tame is → Tame (bodies i j n is)
+  unfolding tame
+  bodies-tame i j zero is t = t
+  bodies-tame i j (suc n) is t = bodies-tame (suc i) (suc j) n is t
 
-get-pure : (m : ℕ) → T (no-name (get-code m))
-get-pure m = code-pure (GetItem ∷ GetAttr ∷ GetAttr ∷ []) (tt, (tt, (tt, tt))) GetMeta tt m
+  items-tame : (i n : ℕ) (is : List Step) → Tame is → Tame (items-stored i n is)
+  unfolding tame
+  items-tame i zero is t = t
+  items-tame i (suc n) is t = items-tame (suc i) n is t
 
-set-pure : (m : ℕ) → T (no-name (set-code m))
-set-pure m = code-pure (SetItem ∷ SetAttr ∷ SetAttr ∷ []) (tt, (tt, (tt, tt))) SetMeta tt m
+  unpacked-tame : (i n : ℕ) (is : List Step) → Tame is → Tame (unpacked i n is)
+  unfolding tame
+  unpacked-tame i zero is t = t
+  unpacked-tame i (suc n) is t = unpacked-tame (suc i) n is t
 
-unary-pure : (d : ℕ) → T (no-name (unary-code d))
-unary-pure d = code-pure (Not ∷ Neg ∷ []) (tt, (tt, tt)) Not tt d
+  property-tame : (m : ℕ) (k : Nodes) (is : List Step) → Tame is → Tame (property m k is)
+  unfolding tame
+  property-tame m k is t = either (eqb m 0) (expr 1 ∷ is) _ t (either (ltb m 3) _ is t t)
 
-binary-pure : (d : ℕ) → T (no-name (binary-code d))
-binary-pure d =
-    code-pure (Add ∷ Sub ∷ Mul ∷ Div ∷ Rem ∷ Add ∷ Add ∷ Eq ∷ Ne ∷ Lt ∷ Le ∷ Gt ∷ Ge ∷ [])
-    (tt, (tt, (tt, (tt, (tt, (tt, (tt, (tt, (tt, (tt, (tt, (tt, (tt, tt))))))))))))) Add tt d
+  block-tame : (j : ℕ) (k : Nodes) → Tame (block-from j k)
+  unfolding tame
+  block-tame j bare = tt
+  block-tame j (node w k s) = block-tame (suc j) s
 
-visits-pure : (a : Role) (j n : ℕ) (is : List Step) → Pure is → Pure (visits a j n is)
-unfolding pure
-visits-pure a j zero is t = t
-visits-pure a j (suc n) is t = visits-pure a (suc j) n is t
+  blocks-tame : (w : Words) (k : Nodes) → Tame (block-steps w k)
+  unfolding tame
+  blocks-tame w bare = tt
+  blocks-tame w (node w′ k s) = block-tame 0 s
 
-visits-down-pure : (a : Role) (n : ℕ) (is : List Step) → Pure is → Pure (visits-down a n is)
-unfolding pure
-visits-down-pure a zero is t = t
-visits-down-pure a (suc n) is t = visits-down-pure a n is t
+  calls-tame : (c : Code) → T (no-name c) → (n a h : ℕ) → T (held-by top n) → Tame (call-with c n a h)
+  unfolding tame
+  calls-tame c u n a zero v = visits-tame Expr 1 a (push-op c n ∷ []) (both (no-name c) _ u (both (held-by top n) true v tt))
+  calls-tame c u n a (suc h) v =
+      visits-tame Expr 1 a (get-label ∷ registers 1 (suc a) (suc h) (push-op Call n ∷ jump Jump 0 ∷ bodies 1 (suc a) (suc h) (place 0 ∷ [])))
+      (registers-tame 1 (suc a) (suc h) (push-op Call n ∷ jump Jump 0 ∷ bodies 1 (suc a) (suc h) (place 0 ∷ []))
+      (both (held-by top n) _ v (bodies-tame 1 (suc a) (suc h) (place 0 ∷ []) tt)))
 
-stores-down-pure : (n : ℕ) (is : List Step) → Pure is → Pure (stores-down n is)
-unfolding pure
-stores-down-pure zero is t = t
-stores-down-pure (suc n) is t = stores-down-pure n is t
+  call-tame : (c : Code) → T (no-name c) → (w : Words) (k : Nodes) → Modest top w k → Tame (call-steps c w k)
+  call-tame c u w bare m = calls-tame c u 0 0 0 tt
+  call-tame c u w (node w′ k s) m = calls-tame c u _ (arguments s) (handlers s) (counted (is-method w′))
+    where
+      counted : (b : Bool) → T (held-by top (cond b (suc (arguments s)) (arguments s)))
+      counted true = held top (suc (arguments s)) (omega (arith, arguments-most s, m .nodes))
+      counted false = held top (arguments s) (omega (arith, arguments-most s, m .nodes))
 
-takes-pure : (n : ℕ) (is : List Step) → Pure is → Pure (takes n is)
-unfolding pure
-takes-pure zero is t = t
-takes-pure (suc n) is t = takes-pure n is t
+  -- patterns
+  taking-tame : (d h : ℕ) (is : List Step) → Tame is → Tame (taking d h is)
+  unfolding tame
+  taking-tame d h is t = either (ltb (suc d) h) is (get-label ∷ is) t t
 
-says-pure : (n : ℕ) (c : Code) (x : ℕ) (is : List Step) → T (no-name c) → Pure is → Pure (says n c x is)
-unfolding pure
-says-pure zero c x is u t = t
-says-pure (suc n) c x is u t = both (no-name c) _ u (says-pure n c x is u t)
+  test-tame : (l : ℕ) (at : List ℕ) (w : Words) (k : Nodes) (is : List Step) → Tame is → Tame (table-test l at w k is)
+  unfolding tame
+  test-tame l at w k is t = either (eqb (w .detail) 1) is (length-test l at w k is) t t
 
-registers-pure : (i j n : ℕ) (is : List Step) → Pure is → Pure (registers i j n is)
-unfolding pure
-registers-pure i j zero is t = t
-registers-pure i j (suc n) is t = registers-pure (suc i) (suc j) n is t
+  pattern-tame : (m d h : ℕ) (at : List ℕ) (w : Words) (k : Nodes) (inside : List Step → List Step) (is : List Step) → ((is : List Step) → Tame is → Tame (inside is)) → Tame is
+      → Tame (pattern-steps m d h at w k inside is)
+  unfolding tame
+  pattern-tame m d h at w k inside is ih t =
+      either (is-nested w) _ _ (taking-tame d h _ (test-tame (m + suc d) at w k (inside (push-op Pop 0 ∷ is)) (ih (push-op Pop 0 ∷ is) t)))
+      (either (is-kind 36 w) (jump JumpPopIfNull (m + d) ∷ access Set at ∷ is) _ t (both (no-function (lit (w .detail) (w .p) (w .q))) _ (lit-pure (w .detail) (w .p) (w .q)) t))
 
-bodies-pure : (i j n : ℕ) (is : List Step) → Pure is → Pure (bodies i j n is)
-unfolding pure
-bodies-pure i j zero is t = t
-bodies-pure i j (suc n) is t = bodies-pure (suc i) (suc j) n is t
+  lead-tame : (part : Part) (at : List ℕ) (i : ℕ) (w : Words) (is : List Step) → Tame is → Tame (lead part at i w is)
+  unfolding tame
+  lead-tame item at i w is t = t
+  lead-tame key at i w is t = both (no-function (lit (w .detail) (w .p) (w .q))) _ (lit-pure (w .detail) (w .p) (w .q)) t
+  lead-tame value at i w is t = t
 
-items-pure : (i n : ℕ) (is : List Step) → Pure is → Pure (items-stored i n is)
-unfolding pure
-items-pure i zero is t = t
-items-pure i (suc n) is t = items-pure (suc i) n is t
+  inside-tame : (f : Nodes) (part : Part) (m d h : ℕ) (at : List ℕ) (i : ℕ) (is : List Step) → Tame is → Tame (inside-steps part m d h at i f is)
+  inside-tame bare part m d h at i is t = t
+  inside-tame (node w k s) part m d h at i is t =
+      let rest = inside-steps (next-part part) m d (cond (is-pattern-part part && is-nested w) (labels-after (parts w) (suc d) (grown d h) k) h) at (suc i) s is in
+      let inside : List Step → List Step = λ is. inside-steps (parts w) m (suc d) (grown d h) (at ++ (i ∷ [])) 0 k is in
+      let u = inside-tame s (next-part part) m d (cond (is-pattern-part part && is-nested w) (labels-after (parts w) (suc d) (grown d h) k) h) at (suc i) is t in
+      lead-tame part at i w (cond (is-pattern-part part) (pattern-steps m d h (at ++ (i ∷ [])) w k inside rest) rest)
+      (either (is-pattern-part part) (pattern-steps m d h (at ++ (i ∷ [])) w k inside rest) rest
+      (pattern-tame m d h (at ++ (i ∷ [])) w k inside rest (λ is t. inside-tame k (parts w) m (suc d) (grown d h) (at ++ (i ∷ [])) 0 is t) u) u)
 
-unpacked-pure : (i n : ℕ) (is : List Step) → Pure is → Pure (unpacked i n is)
-unfolding pure
-unpacked-pure i zero is t = t
-unpacked-pure i (suc n) is t = unpacked-pure (suc i) n is t
+  cleanup-tame : (h m : ℕ) (is : List Step) → Tame is → Tame (cleanup m h is)
+  unfolding tame
+  cleanup-tame zero m is t = t
+  cleanup-tame (suc zero) m is t = t
+  cleanup-tame (suc (suc h)) m is t = cleanup-tame (suc h) m is t
 
-property-pure : (m : ℕ) (k : Nodes) (is : List Step) → Pure is → Pure (property m k is)
-unfolding pure
-property-pure m k is t = either (eqb m 0) (expr 1 ∷ is) _ t (either (ltb m 3) _ is t t)
+  tests-tame : (m i : ℕ) (at : List ℕ) (w : Words) (k : Nodes) (is : List Step) → Tame is → Tame (test-steps m i at w k is)
+  unfolding tame
+  tests-tame m i at w k is t =
+      pattern-tame m 0 1 at w k (λ is. inside-steps (parts w) m 1 (grown 0 1) at 0 k is) (push-op Pop 0 ∷ jump Jump i ∷ cleanup m (pattern-labels w k) is)
+      (λ is t. inside-tame k (parts w) m 1 (grown 0 1) at 0 is t) (cleanup-tame (pattern-labels w k) m is t)
 
-block-pure : (j : ℕ) (k : Nodes) → Pure (block-from j k)
-unfolding pure
-block-pure j bare = tt
-block-pure j (node w k s) = block-pure (suc j) s
+  case-tests-tame : (k : Nodes) (m i j c n : ℕ) (is : List Step) → Tame is → Tame (case-tests m i j c n k is)
+  case-tests-tame bare m i j c n is t = t
+  case-tests-tame (node w k s) m i j c zero is t = t
+  case-tests-tame (node w k s) m i j c (suc n) is t =
+      tests-tame m i (j ∷ c ∷ []) w k (case-tests (m + pattern-labels w k) i j (suc c) n s is) (case-tests-tame s (m + pattern-labels w k) i j (suc c) n is t)
 
-blocks-pure : (w : Words) (k : Nodes) → Pure (block-steps w k)
-unfolding pure
-blocks-pure w bare = tt
-blocks-pure w (node w′ k s) = block-pure 0 s
+  cases-tests-tame : (s : Nodes) (m j : ℕ) (is : List Step) → Tame is → Tame (cases-tests m j s is)
+  cases-tests-tame bare m j is t = t
+  cases-tests-tame (node w k s) m j is t =
+      case-tests-tame k m j j 0 (w .p) (cases-tests (m + case-labels (w .p) k) (suc j) s is) (cases-tests-tame s (m + case-labels (w .p) k) (suc j) is t)
 
-calls-pure : (c : Code) → T (no-name c) → (n a h : ℕ) → Pure (call-with c n a h)
-unfolding pure
-calls-pure c u n a zero = visits-pure Expr 1 a (say c n ∷ []) (both (no-name c) true u tt)
-calls-pure c u n a (suc h) =
-    visits-pure Expr 1 a (take ∷ registers 1 (suc a) (suc h) (say Call n ∷ jump Jump 0 ∷ bodies 1 (suc a) (suc h) (place 0 ∷ [])))
-    (registers-pure 1 (suc a) (suc h) (say Call n ∷ jump Jump 0 ∷ bodies 1 (suc a) (suc h) (place 0 ∷ [])) (bodies-pure 1 (suc a) (suc h) (place 0 ∷ []) tt))
+  matches-tame : (w : Words) (k : Nodes) → Tame (match-steps w k)
+  unfolding tame
+  matches-tame w bare = tt
+  matches-tame w (node w′ k s) =
+      let last = place 0 ∷ push-op Swap 2 ∷ push-op Pop 0 ∷ [] in
+      let more = null ∷ jump Jump 0 ∷ bodies 1 1 (width s) last in
+      get-labels-tame (width s) (cases-tests (suc (width s)) 1 s more) (cases-tests-tame s (suc (width s)) 1 more (bodies-tame 1 1 (width s) last tt))
 
-call-pure : (c : Code) → T (no-name c) → (w : Words) (k : Nodes) → Pure (call-steps c w k)
-call-pure c u w bare = calls-pure c u 0 0 0
-call-pure c u w (node w′ k s) = calls-pure c u _ (arguments s) (handlers s)
+  members-tame : (sc : StackCode) (w : Words) (k : Nodes) → Tame (member-steps sc w k)
+  unfolding tame
+  members-tame sc w k = either (unlabelled sc (w .detail)) _ _ (got [] tt) (either (ltb (w .detail) 8) _ _ (got (place 0 ∷ []) tt) (got (place 0 ∷ []) tt))
+    where
+      m : ℕ
+      m = w .detail % 8
 
--- patterns
-taking-pure : (d h : ℕ) (is : List Step) → Pure is → Pure (taking d h is)
-unfolding pure
-taking-pure d h is t = either (ltb (suc d) h) is (take ∷ is) t t
+      got : (end : List Step) → Tame end → Tame (property m k (push-op (get-code m) 0 ∷ end))
+      got end p = property-tame m k (push-op (get-code m) 0 ∷ end) (both (no-name (get-code m)) (tame top end) (get-pure m) p)
 
-test-pure : (l : ℕ) (at : List ℕ) (w : Words) (k : Nodes) (is : List Step) → Pure is → Pure (table-test l at w k is)
-unfolding pure
-test-pure l at w k is t = either (eqb (w .detail) 1) is (length-test l at w k is) t t
+  methods-tame : (sc : StackCode) (w : Words) (k : Nodes) → Tame (method-steps sc w k)
+  unfolding tame
+  methods-tame sc w k = either (unlabelled sc (w .detail)) _ _ (got [] tt) (either (ltb (w .detail) 8) _ _ (got (place 0 ∷ []) tt) (got (place 0 ∷ []) tt))
+    where
+      m : ℕ
+      m = w .detail % 8
 
-pattern-pure : (m d h : ℕ) (at : List ℕ) (w : Words) (k : Nodes) (inside : List Step → List Step) (is : List Step) → ((is : List Step) → Pure is → Pure (inside is)) → Pure is
-    → Pure (pattern-steps m d h at w k inside is)
-unfolding pure
-pattern-pure m d h at w k inside is ih t =
-    either (is-nested w) _ _ (taking-pure d h _ (test-pure (m + suc d) at w k (inside (say Pop 0 ∷ is)) (ih (say Pop 0 ∷ is) t)))
-    (either (is-kind 36 w) (jump JumpPopIfNull (m + d) ∷ seek Set at ∷ is) _ t (both (no-function (lit (w .detail) (w .p) (w .q))) _ (lit-pure (w .detail) (w .p) (w .q)) t))
+      got : (end : List Step) → Tame end → Tame (property m k (push-op (get-code m) 0 ∷ push-op Swap 2 ∷ end))
+      got end p = property-tame m k (push-op (get-code m) 0 ∷ push-op Swap 2 ∷ end) (both (no-name (get-code m)) (tame top end) (get-pure m) p)
 
-lead-pure : (part : Part) (at : List ℕ) (i : ℕ) (w : Words) (is : List Step) → Pure is → Pure (lead part at i w is)
-unfolding pure
-lead-pure item at i w is t = t
-lead-pure key at i w is t = both (no-function (lit (w .detail) (w .p) (w .q))) _ (lit-pure (w .detail) (w .p) (w .q)) t
-lead-pure value at i w is t = t
+  fors-tame : (w : Words) (k : Nodes) → Tame (for-steps w k)
+  unfolding tame
+  fors-tame w k =
+      let more = expr (suc (w .p)) ∷ push-op Pop 0 ∷ jump-back 0 ∷ place 1 ∷ push-op Pop 0 ∷ null ∷ end-loop ∷ [] in
+      either (eqb (w .p) 1) (access Set (0 ∷ []) ∷ more) (items-stored 0 (w .p) (push-op Pop 0 ∷ more)) tt (items-tame 0 (w .p) (push-op Pop 0 ∷ more) tt)
 
-inside-pure : (f : Nodes) (part : Part) (m d h : ℕ) (at : List ℕ) (i : ℕ) (is : List Step) → Pure is → Pure (inside-steps part m d h at i f is)
-inside-pure bare part m d h at i is t = t
-inside-pure (node w k s) part m d h at i is t =
-    let rest = inside-steps (next-part part) m d (cond (is-pattern-part part && is-nested w) (labels-after (parts w) (suc d) (grown d h) k) h) at (suc i) s is in
-    let inside : List Step → List Step = λ is. inside-steps (parts w) m (suc d) (grown d h) (at ++ (i ∷ [])) 0 k is in
-    let u = inside-pure s (next-part part) m d (cond (is-pattern-part part && is-nested w) (labels-after (parts w) (suc d) (grown d h) k) h) at (suc i) is t in
-    lead-pure part at i w (cond (is-pattern-part part) (pattern-steps m d h (at ++ (i ∷ [])) w k inside rest) rest)
-    (either (is-pattern-part part) (pattern-steps m d h (at ++ (i ∷ [])) w k inside rest) rest
-    (pattern-pure m d h (at ++ (i ∷ [])) w k inside rest (λ is t. inside-pure k (parts w) m (suc d) (grown d h) (at ++ (i ∷ [])) 0 is t) u) u)
+  simple-tame : (w : Words) (p : ℕ) → Tame (simple-import w p)
+  unfolding tame
+  simple-tame w zero = tt
+  simple-tame w (suc p) = tt
 
-cleanup-pure : (h m : ℕ) (is : List Step) → Pure is → Pure (cleanup m h is)
-unfolding pure
-cleanup-pure zero m is t = t
-cleanup-pure (suc zero) m is t = t
-cleanup-pure (suc (suc h)) m is t = cleanup-pure (suc h) m is t
+  -- each kind but Function
+  abbrev TameKind : Kind → Type 0
+  TameKind x = T (not (eqb (x .number) 30)) → (w : Words) (k : Nodes) → Modest top w k → Tame (x .list w k)
 
-tests-pure : (m i : ℕ) (at : List ℕ) (w : Words) (k : Nodes) (is : List Step) → Pure is → Pure (test-steps m i at w k is)
-unfolding pure
-tests-pure m i at w k is t =
-    pattern-pure m 0 1 at w k (λ is. inside-steps (parts w) m 1 (grown 0 1) at 0 k is) (say Pop 0 ∷ jump Jump i ∷ cleanup m (pattern-labels w k) is)
-    (λ is t. inside-pure k (parts w) m 1 (grown 0 1) at 0 is t) (cleanup-pure (pattern-labels w k) m is t)
+  tame-at : (xs : List Kind) → EachKind TameKind xs → (n : ℕ) → (n ≡ 30 → ⊥) → (w : Words) (k : Nodes) → Modest top w k → Tame (steps-of n xs w k)
+  unfolding tame
+  tame-at [] no-more n ne w k m = tt
+  tame-at (x ∷ xs) (h also hs) n ne w k m = go (eqb n (x .number)) refl (tame-at xs hs n ne w k m)
+    where
+      other : (b : Bool) → eqb (x .number) 30 ≡ b → n ≡ x .number → T (not b)
+      other true e q = absurd (ne (q ∙ eqb→eq (x .number) 30 (subst T (sym e) tt)))
+      other false e q = tt
 
-case-tests-pure : (k : Nodes) (m i j c n : ℕ) (is : List Step) → Pure is → Pure (case-tests m i j c n k is)
-case-tests-pure bare m i j c n is t = t
-case-tests-pure (node w k s) m i j c zero is t = t
-case-tests-pure (node w k s) m i j c (suc n) is t =
-    tests-pure m i (j ∷ c ∷ []) w k (case-tests (m + pattern-labels w k) i j (suc c) n s is) (case-tests-pure s (m + pattern-labels w k) i j (suc c) n is t)
+      go : (b : Bool) → eqb n (x .number) ≡ b → Tame (steps-of n xs w k) → Tame (cond b (x .list w k) (steps-of n xs w k))
+      go true e ih = h (other (eqb (x .number) 30) refl (eqb→eq n (x .number) (subst T (sym e) tt))) w k m
+      go false e ih = ih
 
-cases-tests-pure : (s : Nodes) (m j : ℕ) (is : List Step) → Pure is → Pure (cases-tests m j s is)
-cases-tests-pure bare m j is t = t
-cases-tests-pure (node w k s) m j is t =
-    case-tests-pure k m j j 0 (w .p) (cases-tests (m + case-labels (w .p) k) (suc j) s is) (cases-tests-pure s (m + case-labels (w .p) k) (suc j) is t)
+  lits-tame : (w : Words) (k : Nodes) → Tame (lit-steps w k)
+  unfolding tame
+  lits-tame w k = both (no-function (lit (w .detail) (w .p) (w .q))) true (lit-pure (w .detail) (w .p) (w .q)) tt
 
-matches-pure : (w : Words) (k : Nodes) → Pure (match-steps w k)
-unfolding pure
-matches-pure w bare = tt
-matches-pure w (node w′ k s) =
-    let last = place 0 ∷ say Swap 2 ∷ say Pop 0 ∷ [] in
-    let more = null ∷ jump Jump 0 ∷ bodies 1 1 (width s) last in
-    takes-pure (width s) (cases-tests (suc (width s)) 1 s more) (cases-tests-pure s (suc (width s)) 1 more (bodies-pure 1 1 (width s) last tt))
+  binaries-tame : (w : Words) (k : Nodes) → Tame (binary-steps w k)
+  unfolding tame
+  binaries-tame w k =
+      either (eqb (w .detail) 5) _ _ tt (either (eqb (w .detail) 6) _ _ tt (either (no-opcode (w .detail)) _ _ tt (coded (binary-code (w .detail)) (binary-pure (w .detail)))))
 
-members-pure : (w : Words) (k : Nodes) → Pure (member-steps w k)
-unfolding pure
-members-pure w k = either (ltb (w .detail) 8) _ _ got got
-  where
-    m : ℕ
-    m = w .detail % 8
+  assign-ops-tame : (w : Words) (k : Nodes) → Tame (assign-op-steps w k)
+  unfolding tame
+  assign-ops-tame w k =
+      either (is-short (w .detail) k) _ _ (either (eqb (w .detail) 6) _ _ tt tt)
+      (either (no-opcode (w .detail)) _ _ tt (coded (binary-code (w .detail)) (binary-pure (w .detail))))
 
-    got : Pure (property m k (say (get-code m) 0 ∷ place 0 ∷ []))
-    got = property-pure m k (say (get-code m) 0 ∷ place 0 ∷ []) (both (no-name (get-code m)) true (get-pure m) tt)
+  imports-tame : (w : Words) (k : Nodes) → Tame (import-steps w k)
+  unfolding tame
+  imports-tame w k =
+      either (ltb (w .detail) 2) _ _ (simple-tame w (w .p)) (either (eqb (w .detail) 2) _ _ (visits-tame Expr (w .p) (width k - w .p) (push-op Pop 0 ∷ null ∷ []) tt) tt)
 
-methods-pure : (w : Words) (k : Nodes) → Pure (method-steps w k)
-unfolding pure
-methods-pure w k = either (ltb (w .detail) 8) _ _ got got
-  where
-    m : ℕ
-    m = w .detail % 8
+  unpacks-tame : (w : Words) (k : Nodes) → Tame (assign-unpack-steps w k)
+  unfolding tame
+  unpacks-tame w k = push-ops-tame (w .p - 1) Copy 1 (unpacked 0 (w .p) (null ∷ [])) tt tt (unpacked-tame 0 (w .p) (null ∷ []) tt)
 
-    got : Pure (property m k (say (get-code m) 0 ∷ say Swap 2 ∷ place 0 ∷ []))
-    got = property-pure m k (say (get-code m) 0 ∷ say Swap 2 ∷ place 0 ∷ []) (both (no-name (get-code m)) true (get-pure m) tt)
+  multis-tame : (w : Words) (k : Nodes) → Tame (assign-multi-steps w k)
+  unfolding tame
+  multis-tame w k =
+      either (eqb (w .p + w .p) (width k)) _ _ (visits-tame Expr (w .p) (w .p) (visits-down Target (w .p) (null ∷ [])) (visits-down-tame Target (w .p) (null ∷ []) tt)) tt
 
-fors-pure : (w : Words) (k : Nodes) → Pure (for-steps w k)
-unfolding pure
-fors-pure w k =
-    let more = expr (suc (w .p)) ∷ say Pop 0 ∷ back 0 ∷ place 1 ∷ say Pop 0 ∷ null ∷ leave ∷ [] in
-    either (eqb (w .p) 1) (seek Set (0 ∷ []) ∷ more) (items-stored 0 (w .p) (say Pop 0 ∷ more)) tt (items-pure 0 (w .p) (say Pop 0 ∷ more) tt)
+  returns-tame : (sc : StackCode) (w : Words) (k : Nodes) → Tame (return-steps sc w k)
+  unfolding tame
+  returns-tame Code1 w k = either (is-tail k) _ _ tt tt
+  returns-tame Code2 w k = either (is-tail k) _ _ tt tt
 
-simple-pure : (w : Words) (p : ℕ) → Pure (simple-import w p)
-unfolding pure
-simple-pure w zero = tt
-simple-pure w (suc p) = tt
+  -- one instruction of a computed operand at the end
+  counted : (x : ℕ) → x ≤ top → T (held-by top x && true)
+  counted x h = both (held-by top x) true (held top x h) tt
 
--- each kind but Function
-abbrev PureKind : Kind → Type 0
-PureKind x = T (not (eqb (x .number) 30)) → (w : Words) (k : Nodes) → Pure (x .list w k)
+  handlers-tame : (w : Words) (k : Nodes) → Modest top w k → Tame (handler-steps w k)
+  unfolding tame
+  handlers-tame w k m = counted (width (below k 1)) (omega (arith, below-most k 1, m .nodes))
 
-pure-at : (xs : List Kind) → EachKind PureKind xs → (n : ℕ) → (n ≡ 30 → ⊥) → (w : Words) (k : Nodes) → Pure (steps-of n xs w k)
-unfolding pure
-pure-at [] no-more n ne w k = tt
-pure-at (x ∷ xs) (h also hs) n ne w k = go (eqb n (x .number)) refl (pure-at xs hs n ne w k)
-  where
-    other : (b : Bool) → eqb (x .number) 30 ≡ b → n ≡ x .number → T (not b)
-    other true e q = absurd (ne (q ∙ eqb→eq (x .number) 30 (subst T (sym e) tt)))
-    other false e q = tt
+  tables-tame : (w : Words) (k : Nodes) → Modest top w k → Tame (table-steps w k)
+  unfolding tame
+  tables-tame w k m =
+      visits-tame Expr 0 (width k) (push-op BuildTable (width k / 2) ∷ []) (counted (width k / 2) (omega (arith, width-most k, m .nodes, div-mul-le-self (width k) 2)))
 
-    go : (b : Bool) → eqb n (x .number) ≡ b → Pure (steps-of n xs w k) → Pure (cond b (x .list w k) (steps-of n xs w k))
-    go true e ih = h (other (eqb (x .number) 30) refl (eqb→eq n (x .number) (subst T (sym e) tt))) w k
-    go false e ih = ih
+  lists-tame : (w : Words) (k : Nodes) → Modest top w k → Tame (list-steps w k)
+  unfolding tame
+  lists-tame w k m = visits-tame Expr 0 (width k) (push-op BuildList (width k) ∷ []) (counted (width k) (omega (arith, width-most k, m .nodes)))
 
--- one instruction of a computed code at the end
-coded : (c : Code) → T (no-name c) → T (no-name c && true)
-coded c u = both (no-name c) true u tt
+  kinds-tame : (sc : StackCode) → EachKind TameKind (kinds sc)
+  unfolding tame
+  kinds-tame sc =
+      (λ h w k m. lits-tame w k) also (λ h w k m. tt) also (λ h w k m. tt) also (λ h w k m. blocks-tame w k) also (λ h w k m. either (eqb (w .detail) 1) _ _ tt tt) also
+      (λ h w k m. tt) also
+      (λ h w k m. tables-tame w k m) also (λ h w k m. lists-tame w k m) also
+      (λ h w k m. coded (unary-code (w .detail)) (unary-pure (w .detail))) also (λ h w k m. binaries-tame w k) also (λ h w k m. counted (w .detail) (m .detail)) also
+      (λ h w k m. members-tame sc w k) also (λ h w k m. call-tame Call tt w k m) also (λ h w k m. either (eqb (w .detail) 1) _ _ tt tt) also
+      (λ h w k m. matches-tame w k) also (λ h w k m. tt) also (λ h w k m. tt) also (λ h w k m. fors-tame w k) also (λ h w k m. tt) also (λ h w k m. tt) also
+      (λ h w k m. returns-tame sc w k) also (λ h w k m. imports-tame w k) also (λ h w k m. tt) also (λ h w k m. tt) also (λ h w k m. assign-ops-tame w k) also
+      (λ h w k m. unpacks-tame w k) also (λ h w k m. multis-tame w k) also (λ h w k m. absurd h) also (λ h w k m. stores-down-tame (width k) [] tt) also
+      (λ h w k m. handlers-tame w k m) also (λ h w k m. tt) also (λ h w k m. tt) also no-more
 
-lits-pure : T (not (eqb 1 30)) → (w : Words) (k : Nodes) → Pure (lit-steps w k)
-unfolding pure
-lits-pure h w k = both (no-function (lit (w .detail) (w .p) (w .q))) true (lit-pure (w .detail) (w .p) (w .q)) tt
+  targets-tame : (w : Words) (k : Nodes) → Tame (target-steps w k)
+  unfolding tame
+  targets-tame w k =
+      either (eqb (w .detail) 0) _ _ tt
+      (property-tame (w .detail - 1) k (push-op (set-code (w .detail - 1)) 0 ∷ access Set (0 ∷ []) ∷ []) (both (no-name (set-code (w .detail - 1))) true (set-pure (w
+      .detail - 1)) tt))
 
-binaries-pure : (w : Words) (k : Nodes) → Pure (binary-steps w k)
-unfolding pure
-binaries-pure w k =
-    either (eqb (w .detail) 5) _ _ tt (either (eqb (w .detail) 6) _ _ tt (either (no-opcode (w .detail)) _ _ tt (coded (binary-code (w .detail)) (binary-pure (w .detail)))))
+  befores-tame : (w : Words) (k : Nodes) → Tame (before-steps w k)
+  unfolding tame
+  befores-tame w k =
+      either (eqb (w .detail) 0) _ _ tt (either (ltb (w .detail) 4) _ _ (property-tame (w .detail - 1) k (push-op Copy 2 ∷ push-op Copy 2 ∷ push-op (get-code (w
+      .detail - 1)) 0 ∷ []) got) got)
+    where
+      got : T (no-name (get-code (w .detail - 1)) && true)
+      got = both (no-name (get-code (w .detail - 1))) true (get-pure (w .detail - 1)) tt
 
-assign-ops-pure : (w : Words) (k : Nodes) → Pure (assign-op-steps w k)
-unfolding pure
-assign-ops-pure w k =
-    either (is-short (w .detail) k) _ _ (either (eqb (w .detail) 6) _ _ tt tt)
-    (either (no-opcode (w .detail)) _ _ tt (coded (binary-code (w .detail)) (binary-pure (w .detail))))
+  afters-tame : (w : Words) (k : Nodes) → Tame (after-steps w k)
+  unfolding tame
+  afters-tame w k = either (eqb (w .detail) 0) _ _ tt (either (ltb (w .detail) 4) _ _ put-on put-on)
+    where
+      put-on : T (no-name (set-code (w .detail - 1)) && true)
+      put-on = both (no-name (set-code (w .detail - 1))) true (set-pure (w .detail - 1)) tt
 
-imports-pure : (w : Words) (k : Nodes) → Pure (import-steps w k)
-unfolding pure
-imports-pure w k =
-    either (ltb (w .detail) 2) _ _ (simple-pure w (w .p)) (either (eqb (w .detail) 2) _ _ (visits-pure Expr (w .p) (width k - w .p) (say Pop 0 ∷ null ∷ []) tt) tt)
+  -- only a Function's steps bring a Function
+  pub steps-tame : (sc : StackCode) (a : Role) (w : Words) (k : Nodes) → (w .kind ≡ 30 → ⊥) → Modest top w k → Tame (steps sc a w k)
+  unfolding steps tame
+  steps-tame sc Expr w k ne m = tame-at (kinds sc) (kinds-tame sc) (w .kind) ne w k m
+  steps-tame sc Callee w k ne m = either (is-method w) (method-steps sc w k) _ (methods-tame sc w k) (tame-at (kinds sc) (kinds-tame sc) (w .kind) ne w k m)
+  steps-tame sc Tail w k ne m = either (is-kind 13 w) (call-steps ReturnCall w k) [] (call-tame ReturnCall tt w k m) tt
+  steps-tame sc Target w k ne m = either (is-kind 34 w) (target-steps w k) [] (targets-tame w k) tt
+  steps-tame sc Before w k ne m = either (is-kind 34 w) (before-steps w k) [] (befores-tame w k) tt
+  steps-tame sc After w k ne m = either (is-kind 34 w) (after-steps w k) [] (afters-tame w k) tt
 
-unpacks-pure : (w : Words) (k : Nodes) → Pure (assign-unpack-steps w k)
-unfolding pure
-unpacks-pure w k = says-pure (w .p - 1) Copy 1 (unpacked 0 (w .p) (null ∷ [])) tt (unpacked-pure 0 (w .p) (null ∷ []) tt)
+  -- the steps around a function's body
+  pub stream-tame : (w : Words) → Tame (stream-steps w)
+  unfolding tame
+  stream-tame w = either (is-do w) _ _ tt tt
 
-multis-pure : (w : Words) (k : Nodes) → Pure (assign-multi-steps w k)
-unfolding pure
-multis-pure w k =
-    either (eqb (w .p + w .p) (width k)) _ _ (visits-pure Expr (w .p) (w .p) (visits-down Target (w .p) (null ∷ [])) (visits-down-pure Target (w .p) (null ∷ []) tt)) tt
+-- every list is so for some n
+every-modest : (w : Words) (k : Nodes) → Modest (w .detail + tally k) w k
+every-modest w k = record { detail = omega arith; nodes = omega arith }
 
-kinds-pure : EachKind PureKind kinds
-unfolding pure
-kinds-pure =
-    lits-pure also (λ h w k. tt) also (λ h w k. tt) also (λ h. blocks-pure) also (λ h w k. either (eqb (w .detail) 1) _ _ tt tt) also (λ h w k. tt) also
-    (λ h w k. visits-pure Expr 0 (width k) (say BuildTable _ ∷ []) tt) also (λ h w k. visits-pure Expr 0 (width k) (say BuildList _ ∷ []) tt) also
-    (λ h w k. coded (unary-code (w .detail)) (unary-pure (w .detail))) also (λ h. binaries-pure) also (λ h w k. tt) also (λ h. members-pure) also (λ h. call-pure Call tt) also
-    (λ h w k. either (eqb (w .detail) 1) _ _ tt tt) also (λ h. matches-pure) also (λ h w k. tt) also (λ h w k. tt) also (λ h. fors-pure) also (λ h w k. tt) also
-    (λ h w k. tt) also (λ h w k. either (is-tail k) _ _ tt tt) also (λ h. imports-pure) also (λ h w k. tt) also (λ h w k. tt) also
-    (λ h. assign-ops-pure) also (λ h. unpacks-pure) also (λ h. multis-pure) also (λ h w k. absurd h) also
-    (λ h w k. stores-down-pure (width k) [] tt) also (λ h w k. tt) also (λ h w k. tt) also (λ h w k. tt) also no-more
-
-targets-pure : (w : Words) (k : Nodes) → Pure (target-steps w k)
-unfolding pure
-targets-pure w k =
-    either (eqb (w .detail) 0) _ _ tt
-    (property-pure (w .detail - 1) k (say (set-code (w .detail - 1)) 0 ∷ seek Set (0 ∷ []) ∷ []) (both (no-name (set-code (w .detail - 1))) true (set-pure (w .detail - 1)) tt))
-
-befores-pure : (w : Words) (k : Nodes) → Pure (before-steps w k)
-unfolding pure
-befores-pure w k =
-    either (eqb (w .detail) 0) _ _ tt (either (ltb (w .detail) 4) _ _ (property-pure (w .detail - 1) k (say Copy 2 ∷ say Copy 2 ∷ say (get-code (w .detail - 1)) 0 ∷ []) got) got)
-  where
-    got : T (no-name (get-code (w .detail - 1)) && true)
-    got = both (no-name (get-code (w .detail - 1))) true (get-pure (w .detail - 1)) tt
-
-afters-pure : (w : Words) (k : Nodes) → Pure (after-steps w k)
-unfolding pure
-afters-pure w k = either (eqb (w .detail) 0) _ _ tt (either (ltb (w .detail) 4) _ _ put-on put-on)
-  where
-    put-on : T (no-name (set-code (w .detail - 1)) && true)
-    put-on = both (no-name (set-code (w .detail - 1))) true (set-pure (w .detail - 1)) tt
-
-pub none-pure : Pure []
+pub none-pure : T (pure [])
 unfolding pure
 none-pure = tt
 
--- only a Function's steps bring a Function
-pub steps-pure : (a : Role) (w : Words) (k : Nodes) → (w .kind ≡ 30 → ⊥) → Pure (steps a w k)
-unfolding steps pure
-steps-pure Expr w k ne = pure-at kinds kinds-pure (w .kind) ne w k
-steps-pure Callee w k ne = either (is-method w) (method-steps w k) _ (methods-pure w k) (pure-at kinds kinds-pure (w .kind) ne w k)
-steps-pure Tail w k ne = either (is-kind 13 w) (call-steps ReturnCall w k) [] (call-pure ReturnCall tt w k) tt
-steps-pure Target w k ne = either (is-kind 34 w) (target-steps w k) [] (targets-pure w k) tt
-steps-pure Before w k ne = either (is-kind 34 w) (before-steps w k) [] (befores-pure w k) tt
-steps-pure After w k ne = either (is-kind 34 w) (after-steps w k) [] (afters-pure w k) tt
+pub steps-pure : (sc : StackCode) (a : Role) (w : Words) (k : Nodes) → (w .kind ≡ 30 → ⊥) → T (pure (steps sc a w k))
+steps-pure sc a w k ne = tame-pure (w .detail + tally k) (steps sc a w k) (steps-tame (w .detail + tally k) sc a w k ne (every-modest w k))
+
+pub stream-pure : (w : Words) → T (pure (stream-steps w))
+stream-pure w = tame-pure 0 (stream-steps w) (stream-tame 0 w)

@@ -23,27 +23,27 @@ use Rattle.rules.specs.Step.{
   keep,
   Set,
   Step,
-  say,
-  put,
-  take,
+  push-op,
+  push-const,
+  get-label,
   place,
   jump,
-  back,
+  jump-back,
   visit,
-  enter,
-  leave,
+  begin-loop,
+  end-loop,
   exit,
-  bar,
-  seek,
-  stop,
+  check-return,
+  access,
+  refuse,
   inner,
   expr,
   null,
   visits,
   visits-down,
   stores-down,
-  takes,
-  says,
+  get-labels,
+  push-ops,
   width,
 }
 use Rattle.rules.specs.Arms.{
@@ -143,7 +143,7 @@ module _ (n : ℕ) (pend done : List ℕ) where
   stores-down-ok zero is t = t
   stores-down-ok (suc m) is t = stores-down-ok m is t
 
-  pub says-ok : (m : ℕ) (c : Code) (x : ℕ) (is : List Step) → On n pend done is → On n pend done (says m c x is)
+  pub says-ok : (m : ℕ) (c : Code) (x : ℕ) (is : List Step) → On n pend done is → On n pend done (push-ops m c x is)
   unfolding ok
   says-ok zero c x is t = t
   says-ok (suc m) c x is t = says-ok m c x is t
@@ -222,7 +222,7 @@ registers-ok i j (suc n) pend done is t free =
     let e : i + suc n ≡ suc i + n = omega arith in
     both (has i (i ∷ pend)) _ (or-left (eqb i i) (has i pend) (eqb-refl i)) (registers-ok (suc i) (suc j) n (i ∷ pend) done is (rw e at t) (i ∷ free))
 
-takes-ok : (i n : ℕ) (pend done : List ℕ) (is : List Step) → On (i + n) (from-to i n pend) done is → On i pend done (takes n is)
+takes-ok : (i n : ℕ) (pend done : List ℕ) (is : List Step) → On (i + n) (from-to i n pend) done is → On i pend done (get-labels n is)
 unfolding ok from-to
 takes-ok i zero pend done is t free = let e : i + 0 ≡ i = omega arith in rw e at (t free)
 takes-ok i (suc n) pend done is t free = let e : i + suc n ≡ suc i + n = omega arith in takes-ok (suc i) n (i ∷ pend) done is (rw e at t) (i ∷ free)
@@ -289,11 +289,12 @@ module _ (m : ℕ) (rest done : List ℕ) where
   unfolding ok
   taking-ok d h is = go (ltb (suc d) h)
     where
-      go : (b : Bool) → At (cond b h (suc h)) is → At h (cond b is (take ∷ is))
+      go : (b : Bool) → At (cond b h (suc h)) is → At h (cond b is (get-label ∷ is))
       go true t free = t free
       go false t free = let e : m + suc h ≡ suc (m + h) = omega arith in rw (e, to-end m h rest) at (t ((m + h) ∷ free))
 
-  jump-ok : (l h : ℕ) → l < h → (is : List Step) → At h is → (free : List ℕ) → T (has (m + l) (from-to m h rest) && ok false (chk (m + h) (from-to m h rest) done free outside) is)
+  jump-ok : (l h : ℕ) → l < h → (is : List Step) → At h is → (free : List ℕ) → T (has (m + l) (from-to m h rest) && ok false (chk (m + h) (from-to m h rest) done free
+      outside) is)
   jump-ok l h g is t free = both (has (m + l) (from-to m h rest)) _ (has-in (m + l) m h rest (omega arith) (omega arith)) (t free)
 
   test-ok : (l h : ℕ) → l < h → (at : List ℕ) (w : Words) (k : Nodes) (is : List Step) → At h is → At h (table-test (m + l) at w k is)
@@ -308,18 +309,18 @@ module _ (m : ℕ) (rest done : List ℕ) where
   pattern-ok d h g at w k inside is u ih t = go (is-nested w) t
     where
       many : List Step
-      many = taking d h (table-test (m + suc d) at w k (inside (say Pop 0 ∷ is)))
+      many = taking d h (table-test (m + suc d) at w k (inside (push-op Pop 0 ∷ is)))
 
       ident : List Step
-      ident = jump JumpPopIfNull (m + d) ∷ seek Set at ∷ is
+      ident = jump JumpPopIfNull (m + d) ∷ access Set at ∷ is
 
       literal : List Step
-      literal = put LoadConst at (lit (w .detail) (w .p) (w .q)) ∷ say Eq 0 ∷ jump PopJumpIfFalse (m + d) ∷ is
+      literal = push-const LoadConst at (lit (w .detail) (w .p) (w .q)) ∷ push-op Eq 0 ∷ jump PopJumpIfFalse (m + d) ∷ is
 
       go : (b : Bool) → At (cond b g h) is → At h (cond b many (cond (is-kind 36 w) ident literal))
-      go true t = taking-ok d h (table-test (m + suc d) at w k (inside (say Pop 0 ∷ is)))
-          (test-ok (suc d) (grown d h) (grown-at d h u) at w k (inside (say Pop 0 ∷ is)) (ih (say Pop 0 ∷ is) t))
-      go false t = either-way (At h) (is-kind 36 w) ident literal (jump-ok d h u (seek Set at ∷ is) t) (jump-ok d h u is t)
+      go true t = taking-ok d h (table-test (m + suc d) at w k (inside (push-op Pop 0 ∷ is)))
+          (test-ok (suc d) (grown d h) (grown-at d h u) at w k (inside (push-op Pop 0 ∷ is)) (ih (push-op Pop 0 ∷ is) t))
+      go false t = either-way (At h) (is-kind 36 w) ident literal (jump-ok d h u (access Set at ∷ is) t) (jump-ok d h u is t)
 
   lead-ok : (part : Part) (at : List ℕ) (i h : ℕ) (w : Words) (is : List Step) → At h is → At h (lead part at i w is)
   unfolding ok
@@ -360,7 +361,7 @@ unfolding ok from-to
 tests-ok m i at w k rest done is u t free =
     let H = pattern-labels w k in
     let e : m + 1 ≡ suc m = omega arith in
-    let more = say Pop 0 ∷ jump Jump i ∷ cleanup m H is in
+    let more = push-op Pop 0 ∷ jump Jump i ∷ cleanup m H is in
     let inside : List Step → List Step = λ is. inside-steps (parts w) m 1 (grown 0 1) at 0 k is in
     subst (λ z. T (ok false (chk z (m ∷ rest) done (m ∷ free) outside) (pattern-steps m 0 1 at w k inside more))) e
     (pattern-ok m rest done 0 1 (labels-after (parts w) 1 (grown 0 1) k) at w k inside more (omega arith)
@@ -387,12 +388,12 @@ match-ok : (s : Nodes) → Pass false (match-cases s)
 unfolding ok
 match-ok s =
     let e : suc (width s) ≡ 1 + width s = omega arith in
-    let more = null ∷ jump Jump 0 ∷ bodies 1 1 (width s) (place 0 ∷ say Swap 2 ∷ say Pop 0 ∷ []) in
+    let more = null ∷ jump Jump 0 ∷ bodies 1 1 (width s) (place 0 ∷ push-op Swap 2 ∷ push-op Pop 0 ∷ []) in
     takes-ok 1 (width s) (0 ∷ []) [] (cases-tests (suc (width s)) 1 s more)
     (subst (λ z. On z (from-to 1 (width s) (0 ∷ [])) [] (cases-tests (suc (width s)) 1 s more)) e
     (cases-tests-ok s (suc (width s)) 1 (width s) [] more (omega arith) (omega arith)
     (λ n done free. both (has 0 (from-to 1 (width s) (0 ∷ []))) _ (has-to 0 1 (width s) (0 ∷ []) tt)
-    (bodies-ok 1 1 (width s) n done (place 0 ∷ say Swap 2 ∷ say Pop 0 ∷ []) (omega arith) (λ done free. tt) free)))) (0 ∷ [])
+    (bodies-ok 1 1 (width s) n done (place 0 ∷ push-op Swap 2 ∷ push-op Pop 0 ∷ []) (omega arith) (λ done free. tt) free)))) (0 ∷ [])
 
 pub matches-ok : (w : Words) (k : Nodes) → Pass false (match-steps w k)
 unfolding ok

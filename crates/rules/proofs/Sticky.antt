@@ -6,7 +6,7 @@ use Prim.Native.Nat.{ℕ}
 use Rattle.tables.specs.Record.{Words, is-do}
 use Rattle.tables.specs.Forest.{Forest, none, tree, own-tree}
 use Rattle.tables.proofs.ForestLaws.{Each, each, each-at}
-use Rattle.pool.specs.Names.{Semantic, Access, local, global, upvalue, missing}
+use Rattle.pool.specs.Names.{Access, local, global, upvalue, missing}
 use Rattle.rules.specs.Marker.{Way, Mark}
 use Rattle.rules.specs.Step.{
   Role,
@@ -15,24 +15,25 @@ use Rattle.rules.specs.Step.{
   keep,
   Use,
   Step,
-  say,
-  put,
-  take,
+  push-op,
+  push-const,
+  get-label,
   place,
   jump,
-  back,
+  jump-back,
   visit,
-  enter,
-  leave,
+  begin-loop,
+  end-loop,
   exit,
-  bar,
-  seek,
-  stop,
+  check-return,
+  access,
+  refuse,
   inner,
 }
 use Rattle.rules.specs.Arms.{stream-steps}
 use Rattle.rules.specs.Kinds.{steps}
 use Rattle.rules.specs.Run.{
+  Lookup,
   Loop,
   loop,
   State,
@@ -65,7 +66,6 @@ use Rattle.rules.specs.Run.{
   visits-of,
   spot-at,
   number-of,
-  look,
 }
 use Rattle.rules.specs.declared.Flow.{Flow}
 use Rattle.rules.specs.declared.Flow.the-variants.{Go, Cut, Refused}
@@ -120,45 +120,45 @@ nested-sticky true r w v (st m l ls os Go e) h = absurd h
 nested-sticky true r w v (st m l ls os (Cut k a b) e) h = refl
 nested-sticky true r w v (st m l ls os (Refused n q) e) h = refl
 
-module _ (t : Semantic) (o : Mode) (fn : Words) (r : ℕ) (w : Words) (k : Forest) (vs : Role → ℕ → State → State) (body : State → State)
+module _ (t : Lookup) (o : Mode) (fn : Words) (r : ℕ) (w : Words) (k : Forest) (vs : Role → ℕ → State → State) (body : State → State)
     (sticky : (a : Role) (j : ℕ) → Sticky (vs a j)) where
   act-sticky : (x : Step) (env : List ℕ) → Sticky (act t o fn r w k vs body x env)
   unfolding emit bump halt begin finish outward kept
   act-sticky (visit pass a j) env s h = sticky a j s h
   act-sticky (exit x) env s h = way-sticky r w x (loops s) s h
-  act-sticky bar env s h = barred-sticky w (is-do fn) s h
-  act-sticky (seek u p) env s h = sought-sticky r u (number-of (spot-at (tree r w k none) p)) (look t fn u (spot-at (tree r w k none) p)) s h
+  act-sticky check-return env s h = barred-sticky w (is-do fn) s h
+  act-sticky (access u p) env s h = sought-sticky r u (number-of (spot-at (tree r w k none) p)) (t fn u (spot-at (tree r w k none) p)) s h
   act-sticky inner env s h = nested-sticky (o .nest) r w body s h
-  act-sticky (say c x) env (st m l ls os Go e) h = absurd h
-  act-sticky (say c x) env (st m l ls os (Cut y a b) e) h = refl
-  act-sticky (say c x) env (st m l ls os (Refused n q) e) h = refl
-  act-sticky (put c p v) env (st m l ls os Go e) h = absurd h
-  act-sticky (put c p v) env (st m l ls os (Cut y a b) e) h = refl
-  act-sticky (put c p v) env (st m l ls os (Refused n q) e) h = refl
-  act-sticky take env (st m l ls os Go e) h = absurd h
-  act-sticky take env (st m l ls os (Cut y a b) e) h = refl
-  act-sticky take env (st m l ls os (Refused n q) e) h = refl
+  act-sticky (push-op c x) env (st m l ls os Go e) h = absurd h
+  act-sticky (push-op c x) env (st m l ls os (Cut y a b) e) h = refl
+  act-sticky (push-op c x) env (st m l ls os (Refused n q) e) h = refl
+  act-sticky (push-const c p v) env (st m l ls os Go e) h = absurd h
+  act-sticky (push-const c p v) env (st m l ls os (Cut y a b) e) h = refl
+  act-sticky (push-const c p v) env (st m l ls os (Refused n q) e) h = refl
+  act-sticky get-label env (st m l ls os Go e) h = absurd h
+  act-sticky get-label env (st m l ls os (Cut y a b) e) h = refl
+  act-sticky get-label env (st m l ls os (Refused n q) e) h = refl
   act-sticky (place i) env (st m l ls os Go e) h = absurd h
   act-sticky (place i) env (st m l ls os (Cut y a b) e) h = refl
   act-sticky (place i) env (st m l ls os (Refused n q) e) h = refl
   act-sticky (jump x i) env (st m l ls os Go e) h = absurd h
   act-sticky (jump x i) env (st m l ls os (Cut y a b) e) h = refl
   act-sticky (jump x i) env (st m l ls os (Refused n q) e) h = refl
-  act-sticky (back i) env (st m l ls os Go e) h = absurd h
-  act-sticky (back i) env (st m l ls os (Cut y a b) e) h = refl
-  act-sticky (back i) env (st m l ls os (Refused n q) e) h = refl
+  act-sticky (jump-back i) env (st m l ls os Go e) h = absurd h
+  act-sticky (jump-back i) env (st m l ls os (Cut y a b) e) h = refl
+  act-sticky (jump-back i) env (st m l ls os (Refused n q) e) h = refl
   act-sticky (visit keep c j) env (st m l ls os Go e) h = absurd h
   act-sticky (visit keep c j) env (st m l ls os (Cut y a b) e) h = refl
   act-sticky (visit keep c j) env (st m l ls os (Refused n q) e) h = refl
-  act-sticky (enter i j) env (st m l ls os Go e) h = absurd h
-  act-sticky (enter i j) env (st m l ls os (Cut y a b) e) h = refl
-  act-sticky (enter i j) env (st m l ls os (Refused n q) e) h = refl
-  act-sticky leave env (st m l ls os Go e) h = absurd h
-  act-sticky leave env (st m l ls os (Cut y a b) e) h = refl
-  act-sticky leave env (st m l ls os (Refused n q) e) h = refl
-  act-sticky (stop x) env (st m l ls os Go e) h = absurd h
-  act-sticky (stop x) env (st m l ls os (Cut y a b) e) h = refl
-  act-sticky (stop x) env (st m l ls os (Refused n q) e) h = refl
+  act-sticky (begin-loop i j) env (st m l ls os Go e) h = absurd h
+  act-sticky (begin-loop i j) env (st m l ls os (Cut y a b) e) h = refl
+  act-sticky (begin-loop i j) env (st m l ls os (Refused n q) e) h = refl
+  act-sticky end-loop env (st m l ls os Go e) h = absurd h
+  act-sticky end-loop env (st m l ls os (Cut y a b) e) h = refl
+  act-sticky end-loop env (st m l ls os (Refused n q) e) h = refl
+  act-sticky (refuse x) env (st m l ls os Go e) h = absurd h
+  act-sticky (refuse x) env (st m l ls os (Cut y a b) e) h = refl
+  act-sticky (refuse x) env (st m l ls os (Refused n q) e) h = refl
 
   pub exec-sticky : (is : List Step) (env : List ℕ) → Sticky (exec t o fn r w k vs body is env)
   unfolding exec
@@ -167,7 +167,7 @@ module _ (t : Semantic) (o : Mode) (fn : Words) (r : ℕ) (w : Words) (k : Fores
       ap (λ (z : State). exec t o fn r w k vs body is (named t o fn r w k vs body x env (labels s)) z) (act-sticky x env s h)
       ∙ exec-sticky is (named t o fn r w k vs body x env (labels s)) s h
 
-module _ (t : Semantic) (o : Mode) where
+module _ (t : Lookup) (o : Mode) where
   abbrev Sticky-all : Visit → Type 0
   Sticky-all v = (a : Role) (fn : Words) → Sticky (v a fn)
 
@@ -176,13 +176,15 @@ module _ (t : Semantic) (o : Mode) where
   children-sticky k h fn a j = each-at (visit-alg t o) (visit-alg t o) (λ x y. Sticky-all x) absent absent (λ a fn s h. refl) k h j a fn
 
   sticky-step : (r : ℕ) (w : Words) (k : Forest) → Each (λ r w k. Sticky-all (visit-alg t o r w k (visits-of t o k))) k → Sticky-all (visit-alg t o r w k (visits-of t o k))
-  sticky-step r w k h a fn = exec-sticky t o fn r w k (child-visit (visits-of t o k) fn) (stream t o r w k (visits-of t o k)) (children-sticky k h fn) (steps a w (own-tree k)) []
+  sticky-step r w k h a fn = exec-sticky t o fn r w k (child-visit (visits-of t o k) fn) (stream t o r w k (visits-of t o k)) (children-sticky k h fn) (steps (o .code)
+      a w (own-tree k)) []
 
   pub visits-sticky : (k : Forest) (fn : Words) (a : Role) (j : ℕ) → Sticky (child-visit (visits-of t o k) fn a j)
   visits-sticky k fn a j = children-sticky k (each (λ r w k. Sticky-all (visit-alg t o r w k (visits-of t o k))) sticky-step k) fn a j
 
   pub visit-sticky : (r : ℕ) (w : Words) (k : Forest) (a : Role) (fn : Words) → Sticky (visit-alg t o r w k (visits-of t o k) a fn)
-  visit-sticky r w k a fn = exec-sticky t o fn r w k (child-visit (visits-of t o k) fn) (stream t o r w k (visits-of t o k)) (visits-sticky k fn) (steps a w (own-tree k)) []
+  visit-sticky r w k a fn = exec-sticky t o fn r w k (child-visit (visits-of t o k) fn) (stream t o r w k (visits-of t o k)) (visits-sticky k fn) (steps (o .code) a w
+      (own-tree k)) []
 
   pub stream-sticky : (r : ℕ) (w : Words) (k : Forest) → Sticky (stream t o r w k (visits-of t o k))
   unfolding stream

@@ -9,29 +9,29 @@ use lib.Dec.{T, eqb, eqb→eq}
 use Rattle.tables.specs.Record.{Words}
 use Rattle.tables.specs.Forest.{Forest, none, tree}
 use Rattle.tables.proofs.ForestLaws.{and-l, and-r}
-use Rattle.pool.specs.Names.{Semantic, Access, local, global, upvalue, missing}
+use Rattle.pool.specs.Names.{Access, local, global, upvalue, missing}
 use Rattle.rules.specs.Marker.{Way, Break, Continue, Op, Label, To, Back, Leave, Load, Do, Mark, mark}
 use Rattle.rules.specs.Step.{
   Role,
   Keep,
   Use,
   Step,
-  say,
-  put,
-  take,
+  push-op,
+  push-const,
+  get-label,
   place,
   jump,
-  back,
+  jump-back,
   visit,
-  enter,
-  leave,
+  begin-loop,
+  end-loop,
   exit,
-  bar,
-  seek,
-  stop,
+  check-return,
+  access,
+  refuse,
   inner,
 }
-use Rattle.rules.specs.Run.{Loop, loop, number-of, spot-at, look}
+use Rattle.rules.specs.Run.{Lookup, Loop, loop, number-of, spot-at}
 use Rattle.rules.proofs.Segment.{Seg, sought-marks, leaving, seg-code}
 use Rattle.rules.proofs.Check.{has, del, Inside, outside, within, chk, ok, begun, sound-at, settled, stack}
 use Rattle.rules.proofs.Count.{one-same, placed, placed-append, placed-back, Below, below-suc, below-has, below-del, pending-del, length-grown}
@@ -129,7 +129,7 @@ targets-sought r x (global n) u v = (tt, tt)
 targets-sought r x (upvalue n) u v = (tt, tt)
 targets-sought r x (missing y) u v = tt
 
-module _ (t : Semantic) (fn : Words) (r : ℕ) (w : Words) (k : Forest) (ks : Role → ℕ → Seg) (body : Seg) (a : Bool) (good : (x : Role) (j : ℕ) → Placed (ks x j))
+module _ (t : Lookup) (fn : Words) (r : ℕ) (w : Words) (k : Forest) (ks : Role → ℕ → Seg) (body : Seg) (a : Bool) (good : (x : Role) (j : ℕ) → Placed (ks x j))
     (aimed : (x : Role) (j : ℕ) → Aimed (ks x j)) where
   abbrev code : List Step → List ℕ → ℕ → List Loop → List Mark
   code is env b ls = seg-code t fn r w k ks body is env b ls
@@ -157,17 +157,17 @@ module _ (t : Semantic) (fn : Words) (r : ℕ) (w : Words) (k : Forest) (ks : Ro
       → Below n done → T (ok a (chk n pend done free lp) is) → Fits ls u v → Done env done u → Targets u (code is env b (stack r env lp ls)) v
   unfolding seg-code ok stack
   targets-run [] env b ls n pend done free lp u v e p q s f d = tt
-  targets-run (say c x ∷ is) env b ls n pend done free lp u v e p q s f d =
+  targets-run (push-op c x ∷ is) env b ls n pend done free lp u v e p q s f d =
       let m = mark r (Do c x) in
       (tt, targets-run is env b ls n pend done free lp (m ∷ u) v e p q s (fits-mark m ls u v f) (done-mark m env done u d))
-  targets-run (put c x y ∷ is) env b ls n pend done free lp u v e p q s f d =
+  targets-run (push-const c x y ∷ is) env b ls n pend done free lp u v e p q s f d =
       let m = mark (number-of (spot-at (tree r w k none) x)) (Load c y) in
       (tt, targets-run is env b ls n pend done free lp (m ∷ u) v e p q s (fits-mark m ls u v f) (done-mark m env done u d))
-  targets-run (take ∷ is) env b ls n pend done free outside u v e p q s f d =
+  targets-run (get-label ∷ is) env b ls n pend done free outside u v e p q s f d =
       targets-run is (env ++ (b ∷ [])) (suc b) ls (suc n) (n ∷ pend) done (n ∷ free) outside u v (length-grown env b ∙ ap suc e)
       (omega arith, below-suc n pend p) (below-suc n done q) s f
       (done-grown env b done u (rw e q) d)
-  targets-run (take ∷ is) env b ls n pend done free (within i j) u v e p q s f d = absurd s
+  targets-run (get-label ∷ is) env b ls n pend done free (within i j) u v e p q s f d = absurd s
   targets-run (place i ∷ is) env b ls n pend done free lp u v e p q s f d =
       let m = mark r (Label (getD env i 0)) in (
         tt,
@@ -181,7 +181,7 @@ module _ (t : Semantic) (fn : Words) (r : ℕ) (w : Words) (k : Forest) (ks : Ro
         coming is env b _ n pend done free lp e p s′ v i (and-l (has i pend) _ s),
         targets-run is env b ls n pend done free lp (m ∷ u) v e p q s′ (fits-mark m ls u v f) (done-mark m env done u d),
       )
-  targets-run (back i ∷ is) env b ls n pend done free lp u v e p q s f d =
+  targets-run (jump-back i ∷ is) env b ls n pend done free lp u v e p q s f d =
       let m = mark r (Back (getD env i 0)) in (
         done-at env i done u d (and-l (has i done) _ s),
         targets-run is env b ls n pend done free lp (m ∷ u) v e p q (and-r (has i done) _ s) (fits-mark m ls u v f) (done-mark m env done u d),
@@ -196,11 +196,11 @@ module _ (t : Semantic) (fn : Words) (r : ℕ) (w : Words) (k : Forest) (ks : Ro
       (aimed x j b (stack r env lp ls) u (B ++ v) (fits-here pend done env lp ls u (B ++ v) (and-l (sound-at pend done lp) _ (and-l c _ s)) (fits-after B ls u v f)
       (λ i h. coming is env (b + g .count) _ n pend done free lp e p s′ v i h) d))
       (targets-run is env (b + g .count) ls n pend done free lp (reverseAux A u) v e p q s′ (fits-back A ls u v f) (done-back A env done u d))
-  targets-run (enter i j ∷ is) env b ls n pend done free outside u v e p q s f d =
+  targets-run (begin-loop i j ∷ is) env b ls n pend done free outside u v e p q s f d =
       targets-run is env b ls n pend done (del j (del i free)) (within i j) u v e p q (and-r (a && ((has i pend && has j pend) && (has i free && has j (del i free)))) _ s) f d
-  targets-run (enter i j ∷ is) env b ls n pend done free (within i′ j′) u v e p q s f d = absurd s
-  targets-run (leave ∷ is) env b ls n pend done free outside u v e p q s f d = absurd s
-  targets-run (leave ∷ is) env b ls n pend done free (within i j) u v e p q s f d = targets-run is env b ls n pend done free outside u v e p q s f d
+  targets-run (begin-loop i j ∷ is) env b ls n pend done free (within i′ j′) u v e p q s f d = absurd s
+  targets-run (end-loop ∷ is) env b ls n pend done free outside u v e p q s f d = absurd s
+  targets-run (end-loop ∷ is) env b ls n pend done free (within i j) u v e p q s f d = targets-run is env b ls n pend done free outside u v e p q s f d
   targets-run (exit y ∷ is) env b [] n pend done free outside u v e p q s f d = targets-run is env b [] n pend done free outside u v e p q s f d
   targets-run (exit Break ∷ is) env b (loop o c l ∷ ls) n pend done free outside u v e p q s f d =
       let m = mark r (Leave Break l) in (
@@ -213,12 +213,12 @@ module _ (t : Semantic) (fn : Words) (r : ℕ) (w : Words) (k : Forest) (ks : Ro
         targets-run is env b (loop o c l ∷ ls) n pend done free outside (m ∷ u) v e p q s f (done-mark m env done u d),
       )
   targets-run (exit y ∷ is) env b ls n pend done free (within i′ j′) u v e p q s f d = absurd s
-  targets-run (bar ∷ is) env b ls n pend done free lp u v e p q s f d = targets-run is env b ls n pend done free lp u v e p q s f d
-  targets-run (seek x y ∷ is) env b ls n pend done free lp u v e p q s f d =
-      let A = sought-marks r x (look t fn x (spot-at (tree r w k none) y)) in
-      targets-append u A (code is env b (stack r env lp ls)) v (targets-sought r x (look t fn x (spot-at (tree r w k none) y)) u _)
+  targets-run (check-return ∷ is) env b ls n pend done free lp u v e p q s f d = targets-run is env b ls n pend done free lp u v e p q s f d
+  targets-run (access x y ∷ is) env b ls n pend done free lp u v e p q s f d =
+      let A = sought-marks r x (t fn x (spot-at (tree r w k none) y)) in
+      targets-append u A (code is env b (stack r env lp ls)) v (targets-sought r x (t fn x (spot-at (tree r w k none) y)) u _)
       (targets-run is env b ls n pend done free lp (reverseAux A u) v e p q s (fits-back A ls u v f) (done-back A env done u d))
-  targets-run (stop x ∷ is) env b ls n pend done free lp u v e p q s f d = targets-run is env b ls n pend done free lp u v e p q s f d
+  targets-run (refuse x ∷ is) env b ls n pend done free lp u v e p q s f d = targets-run is env b ls n pend done free lp u v e p q s f d
   targets-run (inner ∷ is) env b ls n pend done free lp u v e p q s f d = targets-run is env b ls n pend done free lp u v e p q s f d
 
   pub targets-steps : (is : List Step) → T (ok a begun is) → (b : ℕ) (ls : List Loop) (u v : List Mark) → Fits ls u v → Targets u (code is [] b ls) v

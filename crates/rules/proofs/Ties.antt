@@ -8,29 +8,29 @@ use lib.Dec.{T}
 use Rattle.tables.specs.Record.{Words, is-loop}
 use Rattle.tables.specs.Forest.{Forest, none, tree}
 use Rattle.tables.proofs.ForestLaws.{and-l, and-r}
-use Rattle.pool.specs.Names.{Semantic, Access, local, global, upvalue, missing}
+use Rattle.pool.specs.Names.{Access, local, global, upvalue, missing}
 use Rattle.rules.specs.Marker.{Way, Break, Continue, Op, Label, To, Back, Leave, Load, Do, Mark, mark}
 use Rattle.rules.specs.Step.{
   Role,
   Keep,
   Use,
   Step,
-  say,
-  put,
-  take,
+  push-op,
+  push-const,
+  get-label,
   place,
   jump,
-  back,
+  jump-back,
   visit,
-  enter,
-  leave,
+  begin-loop,
+  end-loop,
   exit,
-  bar,
-  seek,
-  stop,
+  check-return,
+  access,
+  refuse,
   inner,
 }
-use Rattle.rules.specs.Run.{Loop, loop, spot-at, look}
+use Rattle.rules.specs.Run.{Lookup, Loop, loop, spot-at}
 use Rattle.rules.specs.Around.{inward, Around, here, below, beside}
 use Rattle.rules.specs.Demand.{Opened, first, next}
 use Rattle.rules.proofs.Segment.{Seg, sought-marks, seg-code, seg-log}
@@ -94,7 +94,7 @@ module _ (S : ℕ → ℕ → Type 0) (K : ℕ → ℕ → ℕ → Type 0) where
   abbrev pub Tied : ℕ → Seg → Type 0
   Tied a s = (b : ℕ) (ls : List Loop) → top ls ≡ a → AllOpened (s .log b) → TopOpened ls → Ties (s .code b ls)
 
-  module _ (t : Semantic) (fn : Words) (r : ℕ) (w : Words) (f : Forest) (ks : Role → ℕ → Seg) (body : Seg) (a : Bool) (c : ℕ)
+  module _ (t : Lookup) (fn : Words) (r : ℕ) (w : Words) (f : Forest) (ks : Role → ℕ → Seg) (body : Seg) (a : Bool) (c : ℕ)
       (tied : (x : Role) (j : ℕ) → Tied (cond a (suc r) c) (ks x j)) (around : S r c) where
     abbrev code : List Step → List ℕ → ℕ → List Loop → List Mark
     code is env b ls = seg-code t fn r w f ks body is env b ls
@@ -106,13 +106,13 @@ module _ (S : ℕ → ℕ → Type 0) (K : ℕ → ℕ → ℕ → Type 0) where
         → AllOpened (log is env b) → TopOpened ls → TopOpened (stack r env lp ls) → Ties (code is env b (stack r env lp ls))
     unfolding seg-code ok stack seg-log
     ties-run [] env b ls n pend done free lp s e h u v = tt
-    ties-run (say x y ∷ is) env b ls n pend done free lp s e h u v = (tt, ties-run is env b ls n pend done free lp s e h u v)
-    ties-run (put x y z ∷ is) env b ls n pend done free lp s e h u v = (tt, ties-run is env b ls n pend done free lp s e h u v)
-    ties-run (take ∷ is) env b ls n pend done free outside s e h u v = ties-run is (env ++ (b ∷ [])) (suc b) ls (suc n) (n ∷ pend) done (n ∷ free) outside s e h u v
-    ties-run (take ∷ is) env b ls n pend done free (within i j) s e h u v = absurd s
+    ties-run (push-op x y ∷ is) env b ls n pend done free lp s e h u v = (tt, ties-run is env b ls n pend done free lp s e h u v)
+    ties-run (push-const x y z ∷ is) env b ls n pend done free lp s e h u v = (tt, ties-run is env b ls n pend done free lp s e h u v)
+    ties-run (get-label ∷ is) env b ls n pend done free outside s e h u v = ties-run is (env ++ (b ∷ [])) (suc b) ls (suc n) (n ∷ pend) done (n ∷ free) outside s e h u v
+    ties-run (get-label ∷ is) env b ls n pend done free (within i j) s e h u v = absurd s
     ties-run (place i ∷ is) env b ls n pend done free lp s e h u v = (tt, ties-run is env b ls n (del i pend) (i ∷ done) free lp (and-r (has i pend) _ s) e h u v)
     ties-run (jump x i ∷ is) env b ls n pend done free lp s e h u v = (tt, ties-run is env b ls n pend done free lp (and-r (has i pend) _ s) e h u v)
-    ties-run (back i ∷ is) env b ls n pend done free lp s e h u v = (tt, ties-run is env b ls n pend done free lp (and-r (has i done) _ s) e h u v)
+    ties-run (jump-back i ∷ is) env b ls n pend done free lp s e h u v = (tt, ties-run is env b ls n pend done free lp (and-r (has i done) _ s) e h u v)
     ties-run (visit y x j ∷ is) env b ls n pend done free lp s e h u v =
         let g = ks x j in
         let z : Bool = sound-at pend done lp && settled a lp in
@@ -120,22 +120,22 @@ module _ (S : ℕ → ℕ → Type 0) (K : ℕ → ℕ → ℕ → Type 0) where
         ties-append (g .code b (stack r env lp ls)) _
         (tied x j b (stack r env lp ls) (inside-loop a r c lp env ls e (and-r (sound-at pend done lp) (settled a lp) (and-l z _ s))) (o .0) v)
         (ties-run is env (b + g .count) ls n pend done free lp (and-r z _ s) e (o .1) u v)
-    ties-run (enter i j ∷ is) env b ls n pend done free outside s e (h, hs) u v =
+    ties-run (begin-loop i j ∷ is) env b ls n pend done free outside s e (h, hs) u v =
         ties-run is env b ls n pend done (del j (del i free)) (within i j) (and-r (a && ((has i pend && has j pend) && (has i free && has j (del i free)))) _ s) e hs u h
-    ties-run (enter i j ∷ is) env b ls n pend done free (within i′ j′) s e h u v = absurd s
-    ties-run (leave ∷ is) env b ls n pend done free outside s e h u v = absurd s
-    ties-run (leave ∷ is) env b ls n pend done free (within i j) s e h u v = ties-run is env b ls n pend done free outside s e h u u
+    ties-run (begin-loop i j ∷ is) env b ls n pend done free (within i′ j′) s e h u v = absurd s
+    ties-run (end-loop ∷ is) env b ls n pend done free outside s e h u v = absurd s
+    ties-run (end-loop ∷ is) env b ls n pend done free (within i j) s e h u v = ties-run is env b ls n pend done free outside s e h u u
     ties-run (exit y ∷ is) env b [] n pend done free outside s e h u v = ties-run is env b [] n pend done free outside s e h u v
     ties-run (exit Break ∷ is) env b (loop o x l ∷ ls) n pend done free outside s e h u v =
         ((o, x, rw (← e) at around, u), ties-run is env b (loop o x l ∷ ls) n pend done free outside s e h u v)
     ties-run (exit Continue ∷ is) env b (loop o x l ∷ ls) n pend done free outside s e h u v =
         ((o, l, rw (← e) at around, u), ties-run is env b (loop o x l ∷ ls) n pend done free outside s e h u v)
     ties-run (exit y ∷ is) env b ls n pend done free (within i j) s e h u v = absurd s
-    ties-run (bar ∷ is) env b ls n pend done free lp s e h u v = ties-run is env b ls n pend done free lp s e h u v
-    ties-run (seek x y ∷ is) env b ls n pend done free lp s e h u v =
-        let z = look t fn x (spot-at (tree r w f none) y) in
+    ties-run (check-return ∷ is) env b ls n pend done free lp s e h u v = ties-run is env b ls n pend done free lp s e h u v
+    ties-run (access x y ∷ is) env b ls n pend done free lp s e h u v =
+        let z = t fn x (spot-at (tree r w f none) y) in
         ties-append (sought-marks r x z) _ (ties-sought r x z) (ties-run is env b ls n pend done free lp s e h u v)
-    ties-run (stop x ∷ is) env b ls n pend done free lp s e h u v = ties-run is env b ls n pend done free lp s e h u v
+    ties-run (refuse x ∷ is) env b ls n pend done free lp s e h u v = ties-run is env b ls n pend done free lp s e h u v
     ties-run (inner ∷ is) env b ls n pend done free lp s e h u v = ties-run is env b ls n pend done free lp s e h u v
 
 -- the records of some trees are in them

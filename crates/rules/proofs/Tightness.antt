@@ -6,8 +6,10 @@ use Prim.Native.Nat.{ℕ, zero, suc, _+_}
 use lib.ListN.{length}
 use Rattle.tables.specs.Record.{words}
 use Rattle.tables.specs.Forest.{guarded, first, next, grow, forest, children, root, levels}
+use Rattle.rules.specs.declared.StackCode.{StackCode}
+use Rattle.rules.specs.declared.StackCode.the-variants.{Code1}
 use Rattle.rules.specs.Kinds.{steps}
-use Rattle.rules.specs.Run.{side, emit, bump, halt, begin, finish, outward, barred, kept, nested, exec, stream, function-run, nothing, run}
+use Rattle.rules.specs.Run.{look, side, emit, bump, halt, begin, finish, outward, barred, kept, nested, exec, stream, function-run, nothing, run}
 use Rattle.rules.specs.Cases.{frame, empty}
 use Rattle.rules.proofs.Stack.{newest}
 
@@ -34,13 +36,13 @@ left-open m =
 
 -- the errors where the newest n loops are kept
 abbrev errors-kept : ℕ → List ℕ → ℕ
-errors-kept n recs = length (side (function-run empty (newest true n) 0 (words recs 0) (children recs 0) nothing) .errors)
+errors-kept n recs = length (side (function-run (look empty) (newest Code1 true n) 0 (words recs 0) (children recs 0) nothing) .errors)
 
 pub six-levels : levels (root (left-open 2)) ≡ 6
 unfolding guarded first next grow forest
 six-levels = refl
 
-pub all-kept : length (side (run empty (left-open 2)) .errors) ≡ 1
+pub all-kept : length (side (run Code1 (look empty) (left-open 2)) .errors) ≡ 1
 unfolding guarded first next grow forest steps emit bump halt begin finish outward barred kept nested exec stream run
 all-kept = refl
 

@@ -11,12 +11,35 @@ use Rattle.tables.specs.Forest.{Forest, none, tree}
 use Rattle.tables.specs.declared.refusal.RunRule.{RunRule}
 use Rattle.tables.specs.declared.refusal.RunRule.the-variants.{Skipped}
 use Rattle.tables.proofs.ForestLaws.{and-r}
-use Rattle.pool.specs.Names.{Semantic, Access, local, global, upvalue, missing}
+use Rattle.pool.specs.Names.{Access, local, global, upvalue, missing}
+use Rattle.rules.specs.declared.StackCode.{StackCode}
 use Rattle.rules.specs.Marker.{Way, Mark}
-use Rattle.rules.specs.Step.{Role, Keep, pass, keep, Use, Step, say, put, take, place, jump, back, visit, enter, leave, exit, bar, seek, stop, inner}
+use Rattle.rules.specs.Step.{
+  Role,
+  Keep,
+  pass,
+  keep,
+  Use,
+  Step,
+  push-op,
+  push-const,
+  get-label,
+  place,
+  jump,
+  jump-back,
+  visit,
+  begin-loop,
+  end-loop,
+  exit,
+  check-return,
+  access,
+  refuse,
+  inner,
+}
 use Rattle.rules.specs.declared.Flow.{Flow}
 use Rattle.rules.specs.declared.Flow.the-variants.{Go, Cut, Refused}
 use Rattle.rules.specs.Run.{
+  Lookup,
   Error,
   error,
   Loop,
@@ -43,7 +66,6 @@ use Rattle.rules.specs.Run.{
   barred,
   number-of,
   spot-at,
-  look,
   sought,
   settle,
   kept,
@@ -182,22 +204,22 @@ pub nested-number : (r : ℕ) (w : Words) (v : State → State) (m : List Mark) 
 unfolding nested
 nested-number r w v m l ls os e c = eqb→eq (w .p) (e .met) (subst T (sym (entered-body (eqb (w .p) (e .met)) r w v m l ls os e c .0)) tt)
 
-module _ (t : Semantic) (o : Mode) (fn : Words) (r : ℕ) (w : Words) (k : Forest) (vs : Role → ℕ → State → State) (body : State → State)
+module _ (t : Lookup) (o : Mode) (fn : Words) (r : ℕ) (w : Words) (k : Forest) (vs : Role → ℕ → State → State) (body : State → State)
     (child-clean : (x : Role) (j : ℕ) → Clean-back (vs x j)) (body-clean : Clean-back body) where
   pub act-clean : (x : Step) (env : List ℕ) → Clean-back (act t o fn r w k vs body x env)
-  act-clean (say c x) env s d = emit-clean _ s d
-  act-clean (put c p v) env s d = emit-clean _ s d
-  act-clean take env s d = bump-clean s d
+  act-clean (push-op c x) env s d = emit-clean _ s d
+  act-clean (push-const c p v) env s d = emit-clean _ s d
+  act-clean get-label env s d = bump-clean s d
   act-clean (place i) env s d = emit-clean _ s d
   act-clean (jump h i) env s d = emit-clean _ s d
-  act-clean (back i) env s d = emit-clean _ s d
+  act-clean (jump-back i) env s d = emit-clean _ s d
   act-clean (visit y x j) env s d = keeping-clean y (vs x j) (child-clean x j) s d
-  act-clean (enter i j) env s d = begin-clean _ _ s d
-  act-clean leave env s d = finish-clean s d
+  act-clean (begin-loop i j) env s d = begin-clean _ _ s d
+  act-clean end-loop env s d = finish-clean s d
   act-clean (exit x) env s d = outward-clean r w x s d
-  act-clean bar env s d = barred-clean w (is-do fn) s d
-  act-clean (seek u p) env s d = sought-clean r u (number-of (spot-at (tree r w k none) p)) (look t fn u (spot-at (tree r w k none) p)) s d
-  act-clean (stop x) env s d = halt-clean _ s d
+  act-clean check-return env s d = barred-clean w (is-do fn) s d
+  act-clean (access u p) env s d = sought-clean r u (number-of (spot-at (tree r w k none) p)) (t fn u (spot-at (tree r w k none) p)) s d
+  act-clean (refuse x) env s d = halt-clean _ s d
   act-clean inner env s d = nested-clean (o .nest) r w body body-clean s d
 
   -- a run that ends clean was clean all along
@@ -259,14 +281,14 @@ joined : (A B m : List Mark) (l a b : ℕ) (ls C D os : List Loop) (f : Flow) (x
 joined A B m l a b ls C D os f x y X Y e =
     let z : l + a + b ≡ l + (a + b) = omega arith in rw (reverseAux-append A B m, z, reverseAux-append C D os, added-both x y X Y e)
 
-module _ (t : Semantic) (fn : Words) (r : ℕ) (w : Words) (k : Forest) (vs : Role → ℕ → State → State) (body : State → State) (ks : Role → ℕ → Seg) (g : Seg)
+module _ (sc : StackCode) (t : Lookup) (fn : Words) (r : ℕ) (w : Words) (k : Forest) (vs : Role → ℕ → State → State) (body : State → State) (ks : Role → ℕ → Seg) (g : Seg)
     (a : Bool) (writes : (x : Role) (j : ℕ) → Writes (vs x j) (ks x j)) (body-writes : Writes body g) where
-  full-back : (is : List Step) (env : List ℕ) → Clean-back (exec t full fn r w k vs body is env)
-  full-back is env = clean-back t full fn r w k vs body (λ x j. writes-clean (vs x j) (ks x j) (writes x j)) (writes-clean body g body-writes) is env
+  full-back : (is : List Step) (env : List ℕ) → Clean-back (exec t (full sc) fn r w k vs body is env)
+  full-back is env = clean-back t (full sc) fn r w k vs body (λ x j. writes-clean (vs x j) (ks x j) (writes x j)) (writes-clean body g body-writes) is env
 
   pub exec-run : (is : List Step) (env : List ℕ) (s : State) (n : ℕ) (pend done free : List ℕ) (lp : Inside) (outer : List Loop) → loops s ≡ stack r env lp outer
-      → T (ok a (chk n pend done free lp) is) → Clean (exec t full fn r w k vs body is env s)
-      → exec t full fn r w k vs body is env s
+      → T (ok a (chk n pend done free lp) is) → Clean (exec t (full sc) fn r w k vs body is env s)
+      → exec t (full sc) fn r w k vs body is env s
       ≡ after s (seg-code t fn r w k ks g is env (labels s) (loops s)) (seg-count t fn r w k ks g is) outer (seg-log t fn r w k ks g is env (labels s))
       (seg-funs t fn r w k ks g is) (seg-made t fn r w k ks g is)
   unfolding exec emit bump halt begin finish seg-code seg-count seg-log seg-funs seg-made ok stack
@@ -276,63 +298,63 @@ module _ (t : Semantic) (fn : Words) (r : ℕ) (w : Words) (k : Forest) (vs : Ro
   exec-run [] env (st m l ls os f e) n (x ∷ pend) done free (within i j) outer q h c = absurd h
   exec-run (x ∷ is) env (st m l ls os (Cut i j b) e) n pend done free lp outer q h c = absurd (cut-go i j b (full-back (x ∷ is) env (st m l ls os (Cut i j b) e) c .0))
   exec-run (x ∷ is) env (st m l ls os (Refused y j) e) n pend done free lp outer q h c = absurd (refused-go y j (full-back (x ∷ is) env (st m l ls os (Refused y j) e) c .0))
-  exec-run (say y x ∷ is) env (st m l ls os Go e) n pend done free lp outer q h c = exec-run is env _ n pend done free lp outer q h c
-  exec-run (put y p v ∷ is) env (st m l ls os Go e) n pend done free lp outer q h c = exec-run is env _ n pend done free lp outer q h c
-  exec-run (take ∷ is) env (st m l ls os Go e) n pend done free outside outer q h c =
+  exec-run (push-op y x ∷ is) env (st m l ls os Go e) n pend done free lp outer q h c = exec-run is env _ n pend done free lp outer q h c
+  exec-run (push-const y p v ∷ is) env (st m l ls os Go e) n pend done free lp outer q h c = exec-run is env _ n pend done free lp outer q h c
+  exec-run (get-label ∷ is) env (st m l ls os Go e) n pend done free outside outer q h c =
       let z : l + suc (seg-count t fn r w k ks g is) ≡ suc l + seg-count t fn r w k ks g is = omega arith in
       rw z (exec-run is (env ++ (l ∷ [])) (st m (suc l) ls os Go e) (suc n) (n ∷ pend) done (n ∷ free) outside outer q h c)
-  exec-run (take ∷ is) env (st m l ls os Go e) n pend done free (within i j) outer q h c = absurd h
+  exec-run (get-label ∷ is) env (st m l ls os Go e) n pend done free (within i j) outer q h c = absurd h
   exec-run (place i ∷ is) env (st m l ls os Go e) n pend done free lp outer q h c = exec-run is env _ n (del i pend) (i ∷ done) free lp outer q (and-r (has i pend) _ h) c
   exec-run (jump x i ∷ is) env (st m l ls os Go e) n pend done free lp outer q h c = exec-run is env _ n pend done free lp outer q (and-r (has i pend) _ h) c
-  exec-run (back i ∷ is) env (st m l ls os Go e) n pend done free lp outer q h c = exec-run is env _ n pend done free lp outer q (and-r (has i done) _ h) c
+  exec-run (jump-back i ∷ is) env (st m l ls os Go e) n pend done free lp outer q h c = exec-run is env _ n pend done free lp outer q (and-r (has i done) _ h) c
   exec-run (visit y x j ∷ is) env (st m l ls os Go e) n pend done free lp outer q h c =
       let s = st m l ls os Go e in
       let u = ks x j in
       let d = full-back is env (keeping y (vs x j) s) c in
       let z = keeping-same y (vs x j) m l ls os e d in
       let v = z ∙ writes x j s (rw z at d) in
-      ap (exec t full fn r w k vs body is env) v
+      ap (exec t (full sc) fn r w k vs body is env) v
       ∙ exec-run is env (after s (u .code l ls) (u .count) ls (u .log l) (u .funs) (u .made)) n pend done free lp outer q
-      (and-r (sound-at pend done lp && settled a lp) _ h) (subst (λ z. Clean (exec t full fn r w k vs body is env z)) v c)
+      (and-r (sound-at pend done lp && settled a lp) _ h) (subst (λ z. Clean (exec t (full sc) fn r w k vs body is env z)) v c)
       ∙ joined (u .code l ls) (seg-code t fn r w k ks g is env (l + u .count) ls) m l (u .count) (seg-count t fn r w k ks g is) outer
       (u .log l) (seg-log t fn r w k ks g is env (l + u .count)) os Go (u .funs) (seg-funs t fn r w k ks g is) (u .made) (seg-made t fn r w k ks g is) e
-  exec-run (enter i j ∷ is) env (st m l ls os Go e) n pend done free outside outer q h c =
+  exec-run (begin-loop i j ∷ is) env (st m l ls os Go e) n pend done free outside outer q h c =
       exec-run is env _ n pend done (del j (del i free)) (within i j) outer (ap (λ z. loop r (getD env i 0) (getD env j 0) ∷ z) q)
       (and-r (a && ((has i pend && has j pend) && (has i free && has j (del i free)))) _ h) c
-  exec-run (enter i j ∷ is) env (st m l ls os Go e) n pend done free (within i′ j′) outer q h c = absurd h
-  exec-run (leave ∷ is) env (st m l ls os Go e) n pend done free outside outer q h c = absurd h
-  exec-run (leave ∷ is) env (st m l ls os Go e) n pend done free (within i j) outer q h c =
+  exec-run (begin-loop i j ∷ is) env (st m l ls os Go e) n pend done free (within i′ j′) outer q h c = absurd h
+  exec-run (end-loop ∷ is) env (st m l ls os Go e) n pend done free outside outer q h c = absurd h
+  exec-run (end-loop ∷ is) env (st m l ls os Go e) n pend done free (within i j) outer q h c =
       exec-run is env (st m l (drop1 ls) os Go e) n pend done free outside outer (ap drop1 q) h c
   exec-run (exit x ∷ is) env (st m l ls os Go e) n pend done free lp outer q h c =
       let s = st m l ls os Go e in
       let v = outward-same r w x m l ls os e (full-back is env (outward r w x s) c) in
-      ap (exec t full fn r w k vs body is env) v
+      ap (exec t (full sc) fn r w k vs body is env) v
       ∙ exec-run is env (st (reverseAux (leaving r x ls) m) l ls os Go e) n pend done free lp outer q (and-r (is-out lp) _ h)
-      (subst (λ z. Clean (exec t full fn r w k vs body is env z)) v c)
+      (subst (λ z. Clean (exec t (full sc) fn r w k vs body is env z)) v c)
       ∙ rw (reverseAux-append (leaving r x ls) (seg-code t fn r w k ks g is env l ls) m)
-  exec-run (bar ∷ is) env (st m l ls os Go e) n pend done free lp outer q h c =
+  exec-run (check-return ∷ is) env (st m l ls os Go e) n pend done free lp outer q h c =
       let s = st m l ls os Go e in
       let v = barred-same w (is-do fn) m l ls os e (full-back is env (barred w (is-do fn) s) c) in
-      ap (exec t full fn r w k vs body is env) v
-      ∙ exec-run is env s n pend done free lp outer q h (subst (λ z. Clean (exec t full fn r w k vs body is env z)) v c)
-  exec-run (seek x p ∷ is) env (st m l ls os Go e) n pend done free lp outer q h c =
+      ap (exec t (full sc) fn r w k vs body is env) v
+      ∙ exec-run is env s n pend done free lp outer q h (subst (λ z. Clean (exec t (full sc) fn r w k vs body is env z)) v c)
+  exec-run (access x p ∷ is) env (st m l ls os Go e) n pend done free lp outer q h c =
       let i = spot-at (tree r w k none) p in
-      let y = sought-marks r x (look t fn x i) in
-      let v = sought-same r x (number-of i) (look t fn x i) m l ls os e (full-back is env (sought r x (number-of i) (look t fn x i) (st m l ls os Go e)) c) in
-      ap (exec t full fn r w k vs body is env) v
-      ∙ exec-run is env (st (reverseAux y m) l ls os Go e) n pend done free lp outer q h (subst (λ z. Clean (exec t full fn r w k vs body is env z)) v c)
+      let y = sought-marks r x (t fn x i) in
+      let v = sought-same r x (number-of i) (t fn x i) m l ls os e (full-back is env (sought r x (number-of i) (t fn x i) (st m l ls os Go e)) c) in
+      ap (exec t (full sc) fn r w k vs body is env) v
+      ∙ exec-run is env (st (reverseAux y m) l ls os Go e) n pend done free lp outer q h (subst (λ z. Clean (exec t (full sc) fn r w k vs body is env z)) v c)
       ∙ rw (reverseAux-append y (seg-code t fn r w k ks g is env l ls) m)
-  exec-run (stop x ∷ is) env (st m l ls os Go e) n pend done free lp outer q h c = absurd (refused-go x r (full-back is env (st m l ls os (Refused x r) e) c .0))
+  exec-run (refuse x ∷ is) env (st m l ls os Go e) n pend done free lp outer q h c = absurd (refused-go x r (full-back is env (st m l ls os (Refused x r) e) c .0))
   exec-run (inner ∷ is) env (st m l ls os Go e) n pend done free lp outer q h c =
       let s = st m l ls os Go e in
       let x = suc (g .funs) in
       let y = g .made ++ (finished r w g ∷ []) in
       let v = nested-same r w body g body-writes m l ls os e (full-back is env (nested true r w body s) c) in
-      ap (exec t full fn r w k vs body is env) v
-      ∙ exec-run is env (st m l ls os Go (added x y e)) n pend done free lp outer q h (subst (λ z. Clean (exec t full fn r w k vs body is env z)) v c)
+      ap (exec t (full sc) fn r w k vs body is env) v
+      ∙ exec-run is env (st m l ls os Go (added x y e)) n pend done free lp outer q h (subst (λ z. Clean (exec t (full sc) fn r w k vs body is env z)) v c)
       ∙ rw (added-both x (seg-funs t fn r w k ks g is) y (seg-made t fn r w k ks g is) e)
 
-  pub exec-steps : (is : List Step) → T (ok a begun is) → Writes (exec t full fn r w k vs body is []) (step-seg t fn r w k ks g is)
+  pub exec-steps : (is : List Step) → T (ok a begun is) → Writes (exec t (full sc) fn r w k vs body is []) (step-seg t fn r w k ks g is)
   unfolding stack
   exec-steps is h s c = exec-run is [] s 0 [] [] [] outside (loops s) refl h c
 

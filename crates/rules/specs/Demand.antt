@@ -15,6 +15,7 @@ use Rattle.opcode.specs.declared.tables.KindLookup.the-variants as lookup
 use Rattle.tables.specs.Forest.{children, own-tree}
 use Rattle.pool.specs.Value.{Value, plain, effect, Const, same, start}
 use Rattle.pool.specs.Names.{Semantic, Names, Upvalue, names, parent}
+use Rattle.rules.specs.declared.StackCode.{StackCode}
 use Rattle.rules.specs.Marker.{Mark, mark, Op, Label}
 use Rattle.rules.specs.Run.{Loop, loop, Stream, Side}
 use Rattle.rules.specs.Out.{consts, marker-words, stream-of}
@@ -117,13 +118,13 @@ pub record Indices (t : Semantic) (f met : ℕ) (cs : List Const) (ws : List ℕ
   pub functions : (k : ℕ) → k < length cs → KnownFunction met (getD cs k no-const .value)
 
 -- of one function's stream: its words, its constants, its line's label count
-pub record FunctionSound (t : Semantic) (recs : List ℕ) (met f : ℕ) (x : Stream) : Type 0 where
-  pub counted : x .labels ≡ labels-counted (own-tree (children recs (x .at)))
+pub record FunctionSound (sc : StackCode) (t : Semantic) (recs : List ℕ) (met f : ℕ) (x : Stream) : Type 0 where
+  pub counted : x .labels ≡ labels-counted sc (own-tree (children recs (x .at)))
   pub labels : Labels (marker-words (consts (x .marks)) (x .marks) []) (length (x .marks)) (x .labels)
   pub loops : Loops recs x (marker-words (consts (x .marks)) (x .marks) []) (length (x .marks))
   pub constants : Constants (consts (x .marks)) (marker-words (consts (x .marks)) (x .marks) []) (length (x .marks))
   pub indices : Indices t f met (consts (x .marks)) (marker-words (consts (x .marks)) (x .marks) []) (length (x .marks))
 
 -- "for each function"
-abbrev pub Demand3 : Semantic → List ℕ → Side → Type 0
-Demand3 t recs e = (f : ℕ) → f < e .met → FunctionSound t recs (e .met) f (stream-of (e .streams) f)
+abbrev pub Demand3 : StackCode → Semantic → List ℕ → Side → Type 0
+Demand3 sc t recs e = (f : ℕ) → f < e .met → FunctionSound sc t recs (e .met) f (stream-of (e .streams) f)

@@ -9,6 +9,7 @@ use Rattle.tables.specs.Forest.{Nodes, bare, node, own-tree, children}
 use Rattle.tables.specs.declared.refusal.RunRule.{RunRule}
 use Rattle.pool.specs.Value.{Value, plain, effect, Const, find, intern, start, kind-word, low-word, high-word}
 use Rattle.pool.specs.Names.{Semantic, Names, Upvalue, names}
+use Rattle.rules.specs.declared.StackCode.{StackCode}
 use Rattle.rules.specs.Marker.{
   Forward,
   Jump,
@@ -74,7 +75,7 @@ use Rattle.rules.specs.Marker.{
   Mark,
   mark,
 }
-use Rattle.rules.specs.Run.{Error, error, Loop, Stream, Side, State, side, flow, run}
+use Rattle.rules.specs.Run.{Error, error, Loop, Stream, Side, State, side, flow, look, run}
 use Rattle.rules.specs.declared.Flow.{Flow}
 use Rattle.rules.specs.declared.Flow.the-variants.{Go, Cut, Refused}
 
@@ -251,5 +252,5 @@ ended t recs Go e = listed (out t recs e)
 ended t recs (Cut k a b) e = listed (out t recs e)
 ended t recs (Refused x r) e = refused x r
 
-unfoldable pub outcome : Semantic → List ℕ → Outcome
-outcome t recs = ended t recs (flow (run t recs)) (side (run t recs))
+unfoldable pub outcome : StackCode → Semantic → List ℕ → Outcome
+outcome sc t recs = ended t recs (flow (run sc (look t) recs)) (side (run sc (look t) recs))

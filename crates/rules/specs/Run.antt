@@ -4,7 +4,7 @@ use mathlib.Core.List.{List, [], _∷_, _++_}
 use Prim.Native.Nat.{ℕ, zero, suc}
 use lib.ListN.{getD}
 use lib.Dec.{eqb}
-use Rattle.tables.specs.Record.{Words, words, is-do}
+use Rattle.tables.specs.Record.{Words, words, is-do, is-function, is-ident}
 use Rattle.tables.specs.Forest.{Forest, none, tree, forest, children, fold, own-tree}
 use Rattle.tables.specs.declared.refusal.RunRule.{RunRule}
 use Rattle.tables.specs.declared.refusal.RunRule.the-variants.{Reference, Skipped}
@@ -37,25 +37,26 @@ use Rattle.rules.specs.Step.{
   Use,
   Get,
   Set,
-  Path,
+  ChildPath,
   Step,
-  say,
-  put,
-  take,
+  push-op,
+  push-const,
+  get-label,
   place,
   jump,
-  back,
+  jump-back,
   visit,
-  enter,
-  leave,
+  begin-loop,
+  end-loop,
   exit,
-  bar,
-  seek,
-  stop,
+  check-return,
+  access,
+  refuse,
   inner,
 }
 use Rattle.rules.specs.Arms.{stream-steps}
 use Rattle.rules.specs.Kinds.{steps}
+use Rattle.rules.specs.declared.StackCode.{StackCode}
 use Rattle.rules.specs.declared.Flow.{Flow}
 use Rattle.rules.specs.declared.Flow.the-variants.{Go, Cut, Refused}
 
@@ -167,20 +168,31 @@ from-tree zero f = f
 from-tree (suc j) none = none
 from-tree (suc j) (tree r w k s) = from-tree j s
 
-abbrev pub spot-at : Forest → Path → Spot
+-- what is inside a Function is no part of the tree around it
+abbrev pub spot-below : Forest → ChildPath → Spot
+spot-below none [] = nowhere
+spot-below none (j ∷ js) = nowhere
+spot-below (tree r w k s) [] = here r w
+spot-below (tree r w k s) (j ∷ js) = cond (is-function w) nowhere (spot-below (from-tree j k) js)
+
+abbrev pub spot-at : Forest → ChildPath → Spot
 spot-at none [] = nowhere
 spot-at none (j ∷ js) = nowhere
 spot-at (tree r w k s) [] = here r w
-spot-at (tree r w k s) (j ∷ js) = spot-at (from-tree j k) js
+spot-at (tree r w k s) (j ∷ js) = spot-below (from-tree j k) js
 
 abbrev pub number-of : Spot → ℕ
 number-of (here r w) = r
 number-of nowhere = 0
 
--- what loading or storing the Ident there comes to, in the function fn
-abbrev pub look : Semantic → Words → Use → Spot → Access
-look t fn Get (here r w) = load-name t (fn .p) (w .p)
-look t fn Set (here r w) = store-name t (fn .p) (w .p)
+-- what loading or storing an Ident comes to, in the function fn
+abbrev pub Lookup : Type 0
+Lookup = Words → Use → Spot → Access
+
+-- by the lent tables; a record that is no Ident has no reference
+abbrev pub look : Semantic → Lookup
+look t fn Get (here r w) = cond (is-ident w) (load-name t (fn .p) (w .p)) (missing Reference)
+look t fn Set (here r w) = cond (is-ident w) (store-name t (fn .p) (w .p)) (missing Reference)
 look t fn Get nowhere = missing Reference
 look t fn Set nowhere = missing Reference
 
@@ -239,48 +251,49 @@ abbrev pub keeping : Keep → (State → State) → State → State
 keeping pass v = v
 keeping keep v = kept v
 
--- how a run goes: whether the functions inside are run too, and how many open loops are kept
+-- how a run goes: its stack code, whether the functions inside are run too, and how many open loops are kept
 pub record Mode : Type 0 where
+  pub code : StackCode
   pub nest : Bool
   pub trim : List Loop → List Loop
 
 -- Document 01's run: nested functions run inside, every open loop is kept.
-abbrev pub full : Mode
-full = record { nest = true; trim = λ ls. ls }
+abbrev pub full : StackCode → Mode
+full sc = record { code = sc; nest = true; trim = λ ls. ls }
 
 -- one record's visit in the function fn: vs are its children's visits, body its own stream if it is a Function
-module _ (t : Semantic) (o : Mode) (fn : Words) (r : ℕ) (w : Words) (k : Forest) (vs : Role → ℕ → State → State) (body : State → State) where
+module _ (t : Lookup) (o : Mode) (fn : Words) (r : ℕ) (w : Words) (k : Forest) (vs : Role → ℕ → State → State) (body : State → State) where
   abbrev pub act : Step → List ℕ → State → State
-  act (say c x) env = emit (mark r (Do c x))
-  act (put c p v) env = emit (mark (number-of (spot-at (tree r w k none) p)) (Load c v))
-  act take env = bump
+  act (push-op c x) env = emit (mark r (Do c x))
+  act (push-const c p v) env = emit (mark (number-of (spot-at (tree r w k none) p)) (Load c v))
+  act get-label env = bump
   act (place i) env = emit (mark r (Label (getD env i 0)))
   act (jump h i) env = emit (mark r (To h (getD env i 0)))
-  act (back i) env = emit (mark r (Back (getD env i 0)))
+  act (jump-back i) env = emit (mark r (Back (getD env i 0)))
   act (visit y a j) env = keeping y (vs a j)
-  act (enter i j) env = begin (o .trim) (loop r (getD env i 0) (getD env j 0))
-  act leave env = finish
+  act (begin-loop i j) env = begin (o .trim) (loop r (getD env i 0) (getD env j 0))
+  act end-loop env = finish
   act (exit x) env = outward r w x
-  act bar env = barred w (is-do fn)
-  act (seek u p) env = sought r u (number-of (spot-at (tree r w k none) p)) (look t fn u (spot-at (tree r w k none) p))
-  act (stop x) env = halt (Refused x r)
+  act check-return env = barred w (is-do fn)
+  act (access u p) env = sought r u (number-of (spot-at (tree r w k none) p)) (t fn u (spot-at (tree r w k none) p))
+  act (refuse x) env = halt (Refused x r)
   act inner env = nested (o .nest) r w body
 
   -- the labels taken so far, by name
   abbrev pub named : Step → List ℕ → ℕ → List ℕ
-  named (say c x) env l = env
-  named (put c p v) env l = env
-  named take env l = env ++ (l ∷ [])
+  named (push-op c x) env l = env
+  named (push-const c p v) env l = env
+  named get-label env l = env ++ (l ∷ [])
   named (place i) env l = env
   named (jump h i) env l = env
-  named (back i) env l = env
+  named (jump-back i) env l = env
   named (visit y a j) env l = env
-  named (enter i j) env l = env
-  named leave env l = env
+  named (begin-loop i j) env l = env
+  named end-loop env l = env
   named (exit x) env l = env
-  named bar env l = env
-  named (seek u p) env l = env
-  named (stop x) env l = env
+  named check-return env l = env
+  named (access u p) env l = env
+  named (refuse x) env l = env
   named inner env l = env
 
   unfoldable pub exec : List Step → List ℕ → State → State
@@ -298,29 +311,29 @@ abbrev pub child-visit : List Visit → Words → Role → ℕ → State → Sta
 child-visit vs fn a j = getD vs j absent a fn
 
 -- a function's own stream: "Nested functions count for themselves"
-unfoldable pub stream : Semantic → Mode → ℕ → Words → Forest → List Visit → State → State
+unfoldable pub stream : Lookup → Mode → ℕ → Words → Forest → List Visit → State → State
 stream t o r w k vs = exec t o w r w k (child-visit vs w) idle (stream-steps w) []
 
-abbrev pub visit-alg : Semantic → Mode → ℕ → Words → Forest → List Visit → Visit
-visit-alg t o r w k vs a fn = exec t o fn r w k (child-visit vs fn) (stream t o r w k vs) (steps a w (own-tree k)) []
+abbrev pub visit-alg : Lookup → Mode → ℕ → Words → Forest → List Visit → Visit
+visit-alg t o r w k vs a fn = exec t o fn r w k (child-visit vs fn) (stream t o r w k vs) (steps (o .code) a w (own-tree k)) []
 
 -- the visits of some trees, and the stream of one function
-abbrev pub visits-of : Semantic → Mode → Forest → List Visit
+abbrev pub visits-of : Lookup → Mode → Forest → List Visit
 visits-of t o f = fold (visit-alg t o) f
 
-abbrev pub function-run : Semantic → Mode → ℕ → Words → Forest → State → State
+abbrev pub function-run : Lookup → Mode → ℕ → Words → Forest → State → State
 function-run t o r w k = nested true r w (stream t o r w k (visits-of t o k))
 
 abbrev pub nothing : State
 nothing = st [] 0 [] [] Go (record { errors = []; met = 0; streams = [] })
 
 -- the whole run, from record 0
-unfoldable pub run : Semantic → List ℕ → State
-run t recs = function-run t full 0 (words recs 0) (children recs 0) nothing
+unfoldable pub run : StackCode → Lookup → List ℕ → State
+run sc t recs = function-run t (full sc) 0 (words recs 0) (children recs 0) nothing
 
 -- one function walked alone: no function inside is run
 abbrev pub flat : Mode → Mode
-flat o = record { nest = false; trim = o .trim }
+flat o = record { code = o .code; nest = false; trim = o .trim }
 
-unfoldable pub alone : Semantic → Mode → ℕ → Words → Forest → State
+unfoldable pub alone : Lookup → Mode → ℕ → Words → Forest → State
 alone t o r w k = stream t (flat o) r w k (visits-of t (flat o) k) (anew (record { errors = []; met = 0; streams = [] }))

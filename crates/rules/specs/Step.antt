@@ -20,24 +20,38 @@ pub data Use : Type 0 where
   Get Set : Use
 
 -- a record below the one visited, by child numbers; [] is the record itself
-abbrev pub Path : Type 0
-Path = List ℕ
+abbrev pub ChildPath : Type 0
+ChildPath = List ℕ
 
 -- Labels taken by one visit are named 0, 1, .. in the order of taking.
 pub data Step : Type 0 where
-  say : Code → ℕ → Step
-  put : ConstOp → Path → Value → Step
-  take : Step
+  -- self.push_code(OpCode::..)
+  push-op : Code → ℕ → Step
+  -- self.push_load_const(..), and add_const with Import or ImportFrom: the constant is brought by the record at the path
+  push-const : ConstOp → ChildPath → Value → Step
+  -- let label = self.get_label()
+  get-label : Step
+  -- self.push_code(label)
   place : ℕ → Step
+  -- self.push_code(OpCode::Jump(label)) and the others that name a label further on
   jump : Forward → ℕ → Step
-  back : ℕ → Step
+  -- self.push_code(OpCode::JumpBackEdge(label))
+  jump-back : ℕ → Step
+  -- self.visit_expr(child)?, and the other visits of a child
   visit : Keep → Role → ℕ → Step
-  enter : ℕ → ℕ → Step
-  leave : Step
+  -- self.continue_stack().push(..); self.break_stack().push(..)
+  begin-loop : ℕ → ℕ → Step
+  -- self.continue_stack().pop(); self.break_stack().pop()
+  end-loop : Step
+  -- ExprKind::Break, ExprKind::Continue
   exit : Way → Step
-  bar : Step
-  seek : Use → Path → Step
-  stop : RunRule → Step
+  -- if self.function_semantic().kind == FunctionKind::Do { return Err(..) }
+  check-return : Step
+  -- self.load(ident), self.store(ident)
+  access : Use → ChildPath → Step
+  -- a panic, which is refused
+  refuse : RunRule → Step
+  -- self.gen_function_code(function)
   inner : Step
 
 -- a child visited as an expression
@@ -46,7 +60,7 @@ expr j = visit pass Expr j
 
 -- push_load_const of a value that this record brings
 abbrev pub load : Value → Step
-load v = put LoadConst [] v
+load v = push-const LoadConst [] v
 
 abbrev pub null : Step
 null = load Null
@@ -65,16 +79,16 @@ visits-down a (suc n) is = visit pass a n ∷ visits-down a n is
 -- the first n children stored, the last first
 abbrev pub stores-down : ℕ → List Step → List Step
 stores-down zero is = is
-stores-down (suc n) is = seek Set (n ∷ []) ∷ stores-down n is
+stores-down (suc n) is = access Set (n ∷ []) ∷ stores-down n is
 
-abbrev pub takes : ℕ → List Step → List Step
-takes zero is = is
-takes (suc n) is = take ∷ takes n is
+abbrev pub get-labels : ℕ → List Step → List Step
+get-labels zero is = is
+get-labels (suc n) is = get-label ∷ get-labels n is
 
 -- the same instruction n times
-abbrev pub says : ℕ → Code → ℕ → List Step → List Step
-says zero c x is = is
-says (suc n) c x is = say c x ∷ says n c x is
+abbrev pub push-ops : ℕ → Code → ℕ → List Step → List Step
+push-ops zero c x is = is
+push-ops (suc n) c x is = push-op c x ∷ push-ops n c x is
 
 -- how many siblings
 abbrev pub width : Nodes → ℕ

@@ -1,5 +1,5 @@
 -- Table 7 of document 01: "7 records: kind, detail, p, q, start, end, first, next", eight words each. Definitions only.
-use mathlib.Core.Bool.{Bool, _&&_}
+use mathlib.Core.Bool.{Bool, _&&_, _||_}
 use mathlib.Core.List.{List}
 use Prim.Native.Nat.{ℕ, _+_, _*_, _/_}
 use lib.ListN.{length, getD}
@@ -62,3 +62,7 @@ is-do w = eqb (w .detail) 2
 -- 16 Loop, 17 While, 18 For
 abbrev pub is-loop : Words → Bool
 is-loop w = leb 16 (w .kind) && leb (w .kind) 18
+
+-- 2 Ident, 36 the same as a pattern
+abbrev pub is-ident : Words → Bool
+is-ident w = is-kind 2 w || is-kind 36 w

@@ -1,5 +1,7 @@
 -- The numbers and places of document 01's table 'Refused by place'. Definitions only.
+use mathlib.Core.Bool.{cond}
 use Prim.Native.Nat.{ℕ}
+use lib.Dec.{eqb}
 use Rattle.tables.specs.declared.refusal.RecordRule.{RecordRule}
 use Rattle.tables.specs.declared.refusal.RecordRule.the-variants.{Detail, Link, Children, Naming, Nesting, Numbering}
 use Rattle.tables.specs.declared.refusal.RunRule.{RunRule}
@@ -23,6 +25,12 @@ run-number Operator = 13
 run-number Lengths = 14
 run-number Path = 15
 run-number Skipped = 16
+
+-- and back
+abbrev pub ruleOf : ℕ → RunRule
+ruleOf n =
+    cond (eqb n 10) Reference
+    (cond (eqb n 11) Load (cond (eqb n 12) Store (cond (eqb n 13) Operator (cond (eqb n 14) Lengths (cond (eqb n 15) Path Skipped)))))
 
 abbrev pub numberOf : Refusal → ℕ
 numberOf (Table n) = 1

@@ -2,8 +2,10 @@
 pub mod ast;
 pub mod check;
 pub mod children;
+pub mod detail;
 pub mod details;
 pub mod entries;
+pub mod kind;
 pub mod lent;
 pub mod links;
 pub mod members;

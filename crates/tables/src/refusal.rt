@@ -1,6 +1,6 @@
 // Why and where a call is refused. Numbers and places of document 01 are in specs/Refusal.
 ghost use mathlib.Core.Path.{_≡_};
-ghost use Rattle.tables.specs.Refusal.{numberOf, placeOf};
+ghost use Rattle.tables.specs.Refusal.{run-number, ruleOf, numberOf, placeOf};
 
 // The rules that a record breaks: numbers 4 to 9.
 pub enum RecordRule {
@@ -57,8 +57,8 @@ fn record_number(rule: RecordRule) -> u32
     }
 }
 
-fn run_number(rule: RunRule) -> u32
-    ensures { λ n. ⌜ n ≡ numberOf (Refusal.Run rule 0) ⌝ }
+pub fn run_number(rule: RunRule) -> u32
+    ensures { λ n. ⌜ n ≡ run-number rule ⌝ }
 {
     match rule {
         RunRule::Reference => 10,
@@ -68,6 +68,21 @@ fn run_number(rule: RunRule) -> u32
         RunRule::Lengths => 14,
         RunRule::Path => 15,
         RunRule::Skipped => 16,
+    }
+}
+
+// The rule of a number; any other number is the last one's.
+pub fn run_rule(number: u32) -> RunRule
+    ensures { λ x. ⌜ x ≡ ruleOf number ⌝ }
+{
+    match number {
+        10 => RunRule::Reference,
+        11 => RunRule::Load,
+        12 => RunRule::Store,
+        13 => RunRule::Operator,
+        14 => RunRule::Lengths,
+        15 => RunRule::Path,
+        _ => RunRule::Skipped,
     }
 }
 

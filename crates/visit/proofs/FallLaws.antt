@@ -56,12 +56,15 @@ module _ (recs : List ℕ) where
       ⊎-elim (λ z. inl (e ∙ ap (next recs) z ∙ next-zero))
       (λ w. subst⁻¹ (λ (z : ℕ). Linked (size recs) r z) e (⊎-elim (λ z. inl z) (λ v. inr (omega (arith, w .0, v .0), v .1)) (next-linked a))) l
 
-  pub linked-nth : (r n : ℕ) {x a : ℕ} → a ≡ first recs r → x ≡ nth recs n a → Linked (size recs) r x
-  linked-nth r n {x} {a} e q = subst⁻¹ (λ (z : ℕ). Linked (size recs) r z) q (go n a (child1 e))
+  pub linked-past : (n : ℕ) {r x a : ℕ} → Linked (size recs) r a → x ≡ nth recs n a → Linked (size recs) r x
+  linked-past n {r} {x} {a} l q = subst⁻¹ (λ (z : ℕ). Linked (size recs) r z) q (go n a l)
     where
       go : (n a : ℕ) → Linked (size recs) r a → Linked (size recs) r (nth recs n a)
       go zero a l = l
       go (suc n) a l = go n (next recs a) (child2 refl l)
+
+  pub linked-nth : (r n : ℕ) {x a : ℕ} → a ≡ first recs r → x ≡ nth recs n a → Linked (size recs) r x
+  linked-nth r n e q = linked-past n (child1 e) q
 
   pub along-next : {a x c : ℕ} → x ≡ next recs c → (c ≡ 0 → ⊥) → Along a c → Along a x
   along-next {a} {x} {c} e ne l =

@@ -1,7 +1,6 @@
 pub mod FallLaws
-pub mod ArmLaws
 pub mod RunLaws
+pub mod ArmLaws
 pub mod GroupLaws
-pub mod KindLaws
 pub mod LoopLaws
-pub mod MatchLaws
+pub mod KindLaws

@@ -1,229 +1,234 @@
 -- The visitors' loops: what is left of the work, where the loop stands, and that the lent words keep their lengths. Assumes nothing.
-use mathlib.Core.Path.{_≡_, refl, sym, ap, ap₂, _∙_, subst, subst⁻¹}
-use mathlib.Core.Bool.{Bool}
-use mathlib.Core.Logic.{_⊎_, inl, inr, ⊎-elim}
+use mathlib.Core.Path.{_≡_, refl, sym, ap, ap₂, _∙_}
+use mathlib.Core.Bool.{true, false}
+use mathlib.Core.Logic.{inl, inr, ⊎-elim}
 use mathlib.Core.List.{List}
 use Prim.Native.Nat.{ℕ, zero, suc, _+_, _-_, _≤_, _<_}
 use native.Mathlib.Omega.{arith}
-use lib.ListN.{length, getD}
-use Rattle.tables.specs.Record.{words, size}
+use lib.ListN.{length}
+use Rattle.tables.specs.Record.{size}
 use Rattle.tables.specs.Forest.{first, next, children, own-tree}
-use Rattle.pool.specs.Names.{Semantic}
+use Rattle.pool.specs.Notes.{earlier-noted}
+use Rattle.rules.specs.Marker.{Pop, Do, mark}
 use Rattle.rules.specs.Step.{Expr, Target, width}
-use Rattle.rules.specs.Run.{State}
-use Rattle.emit.specs.Sim.{cap, Lent, Scoped, outs, Sim}
-use Rattle.emit.specs.Does.{nth, visit-at, through}
-use Rattle.emit.specs.declared.run.Run.{Run}
-use Rattle.emit.proofs.StateLaws.{resim, stay, Rest, rest-start, rest-go}
+use Rattle.rules.specs.Run.{State, emit, kept}
+use Rattle.emit.specs.Words.{cap, more, at, goes}
+use Rattle.emit.specs.Sinks.{Keeps}
+use Rattle.emit.specs.Rep.{Walk, Lent, Scoped, Outs, outs, Sim}
+use Rattle.emit.specs.Does.{nth, visit-in, through}
+use Rattle.emit.proofs.Basics.{more-cap}
+use Rattle.emit.proofs.RepLaws.{stood, given, then, resim, stay}
+use Rattle.emit.proofs.InsideLaws.{item-goes}
 use Rattle.emit.proofs.PartLaws.{nth-next}
 use Rattle.plain.proofs.CountLaws.{nth-some}
-use Rattle.visit.specs.Runs.{unpacks, bodied, downs}
+use Rattle.visit.specs.Runs.{bodied, bodied-all}
 use Rattle.visit.proofs.FallLaws.{Linked, Along, child2, linked-nth, along-next}
-use Rattle.visit.proofs.RunLaws.{through-none, through-turn, unpacks-turn, bodied-turn}
+use Rattle.visit.proofs.RunLaws.{unpacks, downs, through-none, through-turn, left-items, left-still, left-last, left-turn, unpacks-turn, bodied-none, bodied-turn}
 
--- a loop along the children of record r, at record c
-pub record Loop (e : Lent) (nest : Bool) (r c : ℕ) (a b : List ℕ) (s : Run) (f : Semantic → State → State) (a′ b′ : List ℕ) (s′ : Run) (g : Semantic → State →
-    State)
-    : Type 0 where
-  pub link : Linked (size (e .records)) r c
-  pub work : Rest e nest (outs a b) s f (outs a′ b′) s′ g
-  pub size-code : length a′ ≡ length a
-  pub size-consts : length b′ ≡ length b
+-- from the words o and w on f was to be done, and from o′ and w′ on g is left of it
+pub record Remains (e : Lent) (o : Outs) (w : List ℕ) (f : Walk → State → State) (o′ : Outs) (w′ : List ℕ) (g : Walk → State → State) : Type 0 where
+  pub after : (o″ : Outs) (w″ : List ℕ) → Sim e o′ w′ o″ w″ g → Sim e o w o″ w″ f
+
+module _ {e : Lent} where
+  all-left : {o : Outs} {w : List ℕ} {f g : Walk → State → State} → ((c : Walk) → Scoped e → (A : State) → f c A ≡ g c A) → Remains e o w f o w g
+  all-left q = record { after = λ o″ w″ h. resim q h }
+
+  less-left : {o o′ o″ : Outs} {w w′ w″ : List ℕ} {f g h k : Walk → State → State} → Remains e o w f o′ w′ g → Sim e o′ w′ o″ w″ k
+      → ((c : Walk) → Scoped e → (A : State) → g c A ≡ h c (k c A)) → Remains e o w f o″ w″ h
+  less-left r m q = record { after = λ o‴ w‴ z. r .after o‴ w‴ (resim q (then m z)) }
+
+  none-left : {o o′ : Outs} {w w′ : List ℕ} {f g : Walk → State → State} → Remains e o w f o′ w′ g → ((c : Walk) → Scoped e → (A : State) → g c A ≡ A) → Sim e o w o′ w′ f
+  none-left r q = r .after _ _ (resim q stay)
+
+-- the words o′ and k′ are as long as o and k
+abbrev pub SameSizes : (o k o′ k′ : List ℕ) → Type 0
+SameSizes o k o′ k′ = (length o′ ≡ length o) × (length k′ ≡ length k)
 
 less-none : (n : ℕ) → n ≡ n - 0
 less-none n = omega arith
 
+-- ---- a block's expressions
+
+module _ (e : Lent) (r : ℕ) where
+  pub record Blocking (o k w : List ℕ) (l₀ : ℕ) (o′ k′ w′ : List ℕ) (l : ℕ) : Type 0 where
+    pub link : Linked (size (e .records)) r l
+    pub some : l ≡ 0 → ⊥
+    pub work : Remains e (outs o k) w (λ c. left-items e c r l₀) (outs o′ k′) w′ (λ c. left-items e c r l)
+    pub sizes : SameSizes o k o′ k′
+
+  pub blocking-start : (o k w : List ℕ) {l : ℕ} → Linked (size (e .records)) r l → (l ≡ 0 → ⊥) → Blocking o k w l o k w l
+  blocking-start o k w l ne = record { link = l; some = ne; work = all-left (λ c z A. refl); sizes = (refl, refl) }
+
+  module _ {o k w o′ k′ w′ : List ℕ} {l₀ l : ℕ} (h : Blocking o k w l₀ o′ k′ w′ l) where
+    -- an expression, its error kept: the last one, or one with another behind it
+    module _ {o₁ k₁ w₁ o₂ w₂ : List ℕ} {x : ℕ} (g : goes (at w′) ≡ true) (v : Sim e (outs o′ k′) w′ (outs o₁ k₁) w₁ (λ c. visit-in e c Expr l)) (y : Keeps o₁ w₁ o₂ w₂)
+        (q : x ≡ next (e .records) l) where
+      pub blocking-last : x ≡ 0 → Sim e (outs o k) w (outs o₂ k₁) w₂ (λ c. left-items e c r l₀)
+      blocking-last z = h .work .after _ _ (resim (λ c s A. left-last e c r l x A q z) (item-goes e (λ c. visit-in e c Expr l) g v y))
+
+      pub blocking-again : {o₃ w₃ : List ℕ} → (x ≡ 0 → ⊥) → Sim e (outs o₂ k₁) w₂ (outs o₃ k₁) w₃ (λ c. emit (mark r (Do Pop 0))) → length o₃ ≡ length o′ → length k₁ ≡ length k′
+          → Blocking o k w l₀ o₃ k₁ w₃ x
+      blocking-again ne p so sk = record {
+        link = child2 (e .records) q (h .link);
+        some = ne;
+        work = less-left (h .work) (then (item-goes e (λ c. visit-in e c Expr l) g v y) p) (λ c s A. left-turn e c r l x A q ne);
+        sizes = (so ∙ h .sizes .0, sk ∙ h .sizes .1);
+      }
+
+    pub blocking-still : goes (at w′) ≡ false → Sim e (outs o k) w (outs o′ k′) w′ (λ c. left-items e c r l₀)
+    blocking-still n = h .work .after _ _ (record { sim = λ z c o₀ A y. given (left-still e c r l A (stood y n)) y })
+
 -- ---- n siblings from the record a on
 
-module _ (e : Lent) (nest : Bool) (f a n : ℕ) where
-  pub record All (o k : List ℕ) (s : Run) (o′ k′ : List ℕ) (s′ : Run) (c i : ℕ) : Type 0 where
-    pub along : Along a c
-    pub none : a ≡ 0 → c ≡ 0
-    pub bound : i ≤ n
-    pub work : Rest e nest (outs o k) s (λ t. through (e .records) nest t Expr f n a) (outs o′ k′) s′ (λ t. through (e .records) nest t Expr f (n - i) c)
-    pub size-code : length o′ ≡ length o
-    pub size-consts : length k′ ≡ length k
+module _ (e : Lent) (a n : ℕ) where
+  pub record All (o k w o′ k′ w′ : List ℕ) (l i : ℕ) : Type 0 where
+    pub along : Along a l
+    pub none : a ≡ 0 → l ≡ 0
+    pub work : Remains e (outs o k) w (λ c. through e c Expr n a) (outs o′ k′) w′ (λ c. through e c Expr i l)
+    pub sizes : SameSizes o k o′ k′
 
-  pub all-start : (o k : List ℕ) (s : Run) → All o k s o k s a 0
-  all-start o k s = record {
-    along = inr (omega arith);
-    none = λ q. q;
-    bound = omega arith;
-    work = rest-start (λ t z A. ap (λ (m : ℕ). through (e .records) nest t Expr f m a A) (less-none n));
-    size-code = refl;
-    size-consts = refl;
-  }
+  pub all-start : (o k w : List ℕ) → All o k w o k w a n
+  all-start o k w = record { along = inr (omega arith); none = λ q. q; work = all-left (λ c z A. refl); sizes = (refl, refl) }
 
-  module _ {o k o′ k′ : List ℕ} {s s′ : Run} {c i : ℕ} (h : All o k s o′ k′ s′ c i) where
-    pub all-again : {o″ k″ : List ℕ} {s″ : Run} {x : ℕ} → i < n → (c ≡ 0 → ⊥) → x ≡ next (e .records) c
-        → Sim e nest (outs o′ k′) s′ (outs o″ k″) s″ (λ t. visit-at (e .records) nest t c Expr (words (e .records) f)) → length o″ ≡ length o′ → length k″ ≡
-        length k′
-        → All o k s o″ k″ s″ x (i + 1)
-    all-again {x = x} lt ne q v p d = record {
+  module _ {o k w o′ k′ w′ : List ℕ} {l i : ℕ} (h : All o k w o′ k′ w′ l i) where
+    pub all-again : {o″ k″ w″ : List ℕ} {x j : ℕ} → 0 < i → (l ≡ 0 → ⊥) → x ≡ next (e .records) l → j ≡ i - 1
+        → Sim e (outs o′ k′) w′ (outs o″ k″) w″ (λ c. visit-in e c Expr l) → length o″ ≡ length o′ → length k″ ≡ length k′ → All o k w o″ k″ w″ x j
+    all-again {x = x} lt ne q m v p d = record {
       along = along-next (e .records) q ne (h .along);
       none = λ z. absurd (ne (h .none z));
-      bound = omega arith;
-      work = rest-go (h .work) v (λ t z A. through-turn (e .records) nest t f 0 n i c x A lt q);
-      size-code = p ∙ h .size-code;
-      size-consts = d ∙ h .size-consts;
+      work = less-left (h .work) v (λ c z A. through-turn e c i l x A lt q ∙ ap (λ (j : ℕ). through e c Expr j x (visit-in e c Expr l A)) (sym m));
+      sizes = (p ∙ h .sizes .0, d ∙ h .sizes .1);
     }
 
     -- no sibling is left, or the n are visited
-    pub all-none : c ≡ 0 → Sim e nest (outs o k) s (outs o′ k′) s′ (λ t. through (e .records) nest t Expr f n a)
-    all-none q = h .work .rest _ _ (resim (λ t z A. through-none (e .records) nest t f 0 (n - i) c A q) stay)
+    pub all-none : l ≡ 0 → Sim e (outs o k) w (outs o′ k′) w′ (λ c. through e c Expr n a)
+    all-none q = none-left (h .work) (λ c z A. through-none e c i l A q)
 
-    pub all-end : n ≤ i → Sim e nest (outs o k) s (outs o′ k′) s′ (λ t. through (e .records) nest t Expr f n a)
-    all-end le =
-        let q : n - i ≡ 0 = omega arith in
-        h .work .rest _ _ (resim (λ t z A. ap (λ (m : ℕ). through (e .records) nest t Expr f m c A) q) stay)
+    pub all-end : i ≤ 0 → Sim e (outs o k) w (outs o′ k′) w′ (λ c. through e c Expr n a)
+    all-end le = none-left (h .work) (λ c z A. ap (λ (m : ℕ). through e c Expr m l A) (let q : i ≡ 0 = omega arith in q))
 
 -- ---- an AssignUnpack's Lefts
 
-module _ (e : Lent) (nest : Bool) (f r n : ℕ) where
-  pub record Lefts (o k : List ℕ) (s : Run) (o′ k′ : List ℕ) (s′ : Run) (c i : ℕ) : Type 0 where
-    pub link : Linked (size (e .records)) r c
-    pub bound : i ≤ n
-    pub work : Rest e nest (outs o k) s (λ t. unpacks (e .records) nest t f r 0 n (first (e .records) r)) (outs o′ k′) s′
-        (λ t. unpacks (e .records) nest t f r i (n - i) c)
-    pub size-code : length o′ ≡ length o
-    pub size-consts : length k′ ≡ length k
+module _ (e : Lent) (r n : ℕ) where
+  pub record Unpacking (o k w o′ k′ w′ : List ℕ) (l i : ℕ) : Type 0 where
+    pub link : Linked (size (e .records)) r l
+    pub work : Remains e (outs o k) w (λ c. unpacks e c r 0 n (first (e .records) r)) (outs o′ k′) w′ (λ c. unpacks e c r i (n - i) l)
+    pub sizes : SameSizes o k o′ k′
 
-  pub lefts-start : (o k : List ℕ) (s : Run) (c : ℕ) → c ≡ first (e .records) r → Linked (size (e .records)) r c → Lefts o k s o k s c 0
-  lefts-start o k s c q l = record {
+  pub unpacking-start : (o k w : List ℕ) {l : ℕ} → l ≡ first (e .records) r → Linked (size (e .records)) r l → Unpacking o k w o k w l 0
+  unpacking-start o k w q l = record {
     link = l;
-    bound = omega arith;
-    work = rest-start (λ t z A. ap₂ (λ (m x : ℕ). unpacks (e .records) nest t f r 0 m x A) (less-none n) (sym q));
-    size-code = refl;
-    size-consts = refl;
+    work = all-left (λ c z A. ap₂ (λ (m x : ℕ). unpacks e c r 0 m x A) (less-none n) (sym q));
+    sizes = (refl, refl);
   }
 
-  module _ {o k o′ k′ : List ℕ} {s s′ : Run} {c i : ℕ} (h : Lefts o k s o′ k′ s′ c i) where
-    pub lefts-again : {o″ k″ : List ℕ} {s″ : Run} {x : ℕ} → i < n → x ≡ next (e .records) c → Sim e nest (outs o′ k′) s′ (outs o″ k″) s″ (λ t. unpacks (e
-        .records) nest t f r i 1 c)
-        → length o″ ≡ length o′ → length k″ ≡ length k′ → Lefts o k s o″ k″ s″ x (i + 1)
-    lefts-again {x = x} lt q v p d = record {
+  module _ {o k w o′ k′ w′ : List ℕ} {l i : ℕ} (h : Unpacking o k w o′ k′ w′ l i) where
+    pub unpacking-again : {o″ k″ w″ : List ℕ} {x : ℕ} → i < n → x ≡ next (e .records) l → Sim e (outs o′ k′) w′ (outs o″ k″) w″ (λ c. unpacks e c r i 1 l)
+        → length o″ ≡ length o′ → length k″ ≡ length k′ → Unpacking o k w o″ k″ w″ x (i + 1)
+    unpacking-again {x = x} lt q v p d = record {
       link = child2 (e .records) q (h .link);
-      bound = omega arith;
-      work = rest-go (h .work) v (λ t z A. unpacks-turn (e .records) nest t f r n i c x A lt q);
-      size-code = p ∙ h .size-code;
-      size-consts = d ∙ h .size-consts;
+      work = less-left (h .work) v (λ c z A. unpacks-turn e c r n i l x A lt q);
+      sizes = (p ∙ h .sizes .0, d ∙ h .sizes .1);
     }
 
-    pub lefts-end : n ≤ i → Sim e nest (outs o k) s (outs o′ k′) s′ (λ t. unpacks (e .records) nest t f r 0 n (first (e .records) r))
-    lefts-end le =
-        let q : n - i ≡ 0 = omega arith in
-        h .work .rest _ _ (resim (λ t z A. ap (λ (m : ℕ). unpacks (e .records) nest t f r i m c A) q) stay)
+    pub unpacking-end : n ≤ i → Sim e (outs o k) w (outs o′ k′) w′ (λ c. unpacks e c r 0 n (first (e .records) r))
+    unpacking-end le = none-left (h .work) (λ c z A. ap (λ (m : ℕ). unpacks e c r i m l A) (let q : n - i ≡ 0 = omega arith in q))
 
--- ---- bodies behind their labels; w is the next label's word
+-- ---- bodies behind their labels, the first at the record a behind the label of the word b, each with a jump to the label of the word m
 
-module _ (e : Lent) (nest : Bool) (f r j n l m : ℕ) where
-  pub record Bodying (o k : List ℕ) (s : Run) (o′ k′ : List ℕ) (s′ : Run) (c i w : ℕ) : Type 0 where
-    pub link : Linked (size (e .records)) r c
-    pub bound : i ≤ n
-    pub label : (base : ℕ) → l ≡ cap base → w ≡ cap (base + i)
-    pub work : (base end : ℕ) → l ≡ cap base → m ≡ cap end
-        → Rest e nest (outs o k) s (λ t. bodied (e .records) nest t f r base end n (nth (e .records) j (first (e .records) r))) (outs o′ k′) s′
-        (λ t. bodied (e .records) nest t f r (base + i) end (n - i) c)
-    pub size-code : length o′ ≡ length o
-    pub size-consts : length k′ ≡ length k
+module _ (e : Lent) (a b m : ℕ) where
+  pub record Bodying (o k w o′ k′ w′ : List ℕ) (l x : ℕ) : Type 0 where
+    pub along : Along a l
+    pub none : a ≡ 0 → l ≡ 0
+    pub turns : ℕ
+    pub label : (base : ℕ) → b ≡ cap base → x ≡ cap (base + turns)
+    pub work : (r base end : ℕ) → b ≡ cap base → m ≡ cap end
+        → Remains e (outs o k) w (λ c. bodied-all e c r base end a) (outs o′ k′) w′ (λ c. bodied-all e c r (base + turns) end l)
+    pub sizes : SameSizes o k o′ k′
 
-  plus-none : (b : ℕ) → b ≡ b + 0
-  plus-none b = omega arith
+  none-more : (i : ℕ) → i ≡ i + 0
+  none-more i = omega arith
 
-  pub bodying-start : (o k : List ℕ) (s : Run) (a c : ℕ) → a ≡ first (e .records) r → c ≡ nth (e .records) j a → Bodying o k s o k s c 0 l
-  bodying-start o k s a c q p = record {
-    link = linked-nth (e .records) r j q p;
-    bound = omega arith;
-    label = λ b h. h ∙ ap cap (plus-none b);
-    work = λ b x h y. rest-start (λ t z A.
-        ap (λ (y : ℕ). bodied (e .records) nest t f r b x n y A) (sym (p ∙ ap (nth (e .records) j) q))
-        ∙ ap₂ (λ (y i : ℕ). bodied (e .records) nest t f r y x i c A) (plus-none b) (less-none n));
-    size-code = refl;
-    size-consts = refl;
+  pub bodying-start : (o k w : List ℕ) → Bodying o k w o k w a b
+  bodying-start o k w = record {
+    along = inr (omega arith);
+    none = λ q. q;
+    turns = 0;
+    label = λ i q. q ∙ ap cap (none-more i);
+    work = λ r i j q d. all-left (λ c z A. ap (λ (y : ℕ). bodied-all e c r y j a A) (none-more i));
+    sizes = (refl, refl);
   }
 
-  module _ {o k o′ k′ : List ℕ} {s s′ : Run} {c i w : ℕ} (h : Bodying o k s o′ k′ s′ c i w) where
-    pub bodying-again : {o″ k″ : List ℕ} {s″ : Run} {x v : ℕ} → i < n → x ≡ next (e .records) c → ((b : ℕ) → w ≡ cap b → v ≡ cap (suc b))
-        → ((b y : ℕ) → w ≡ cap b → m ≡ cap y → Sim e nest (outs o′ k′) s′ (outs o″ k″) s″ (λ t. bodied (e .records) nest t f r b y 1 c))
-        → length o″ ≡ length o′ → length k″ ≡ length k′ → Bodying o k s o″ k″ s″ x (i + 1) v
-    bodying-again lt q u d p y = record {
-      link = child2 (e .records) q (h .link);
-      bound = omega arith;
-      label = λ b lb. u (b + i) (h .label b lb) ∙ ap cap (let z : suc (b + i) ≡ b + (i + 1) = omega arith in z);
-      work = λ b x lb mx.
-          rest-go (h .work b x lb mx) (d (b + i) x (h .label b lb) mx) (λ t z A. bodied-turn (e .records) nest t f r b x n i c _ A lt q);
-      size-code = p ∙ h .size-code;
-      size-consts = y ∙ h .size-consts;
+  module _ {o k w o′ k′ w′ : List ℕ} {l x : ℕ} (h : Bodying o k w o′ k′ w′ l x) where
+    pub bodying-again : {o″ k″ w″ : List ℕ} {y v : ℕ} → (l ≡ 0 → ⊥) → y ≡ next (e .records) l → v ≡ more x
+        → ((r i j : ℕ) → x ≡ cap i → m ≡ cap j → Sim e (outs o′ k′) w′ (outs o″ k″) w″ (λ c. bodied e c r i j 1 l))
+        → length o″ ≡ length o′ → length k″ ≡ length k′ → Bodying o k w o″ k″ w″ y v
+    bodying-again {y = y} ne q u d p s = record {
+      along = along-next (e .records) q ne (h .along);
+      none = λ z. absurd (ne (h .none z));
+      turns = suc (h .turns);
+      label = λ i z. u ∙ ap more (h .label i z) ∙ more-cap (i + h .turns) ∙ ap cap (one-on i);
+      work = λ r i j z f. less-left (h .work r i j z f) (d r (i + h .turns) j (h .label i z) f)
+          (λ c s A. bodied-turn e c r (i + h .turns) j l y A ne q ∙ ap (λ (t : ℕ). bodied-all e c r t j y (bodied e c r (i + h .turns) j 1 l A)) (one-on i));
+      sizes = (p ∙ h .sizes .0, s ∙ h .sizes .1);
     }
+      where
+        one-on : (i : ℕ) → suc (i + h .turns) ≡ i + suc (h .turns)
+        one-on i = omega arith
 
-    pub bodying-end : n ≤ i → (base end : ℕ) → l ≡ cap base → m ≡ cap end
-        → Sim e nest (outs o k) s (outs o′ k′) s′ (λ t. bodied (e .records) nest t f r base end n (nth (e .records) j (first (e .records) r)))
-    bodying-end le b y lb my =
-        let q : n - i ≡ 0 = omega arith in
-        h .work b y lb my .rest _ _ (resim (λ t z A. ap (λ (x : ℕ). bodied (e .records) nest t f r (b + i) y x c A) q) stay)
+    pub bodying-end : l ≡ 0 → (r i j : ℕ) → b ≡ cap i → m ≡ cap j → Sim e (outs o k) w (outs o′ k′) w′ (λ c. bodied-all e c r i j a)
+    bodying-end q r i j z f = none-left (h .work r i j z f) (λ c s A. bodied-none e c r (i + h .turns) j l A q)
 
--- ---- an AssignMulti's Lefts, by the links back
+-- ---- an AssignMulti's Lefts, from the last to the first
 
-module _ (e : Lent) (nest : Bool) (f r n : ℕ) where
-  pub record Downing (o k : List ℕ) (s : Run) (o′ k′ : List ℕ) (s′ : Run) (c i : ℕ) : Type 0 where
+module _ (e : Lent) (r n : ℕ) where
+  abbrev child : ℕ → ℕ
+  child j = nth (e .records) j (first (e .records) r)
+
+  pub record Downing (o k w o′ k′ w′ : List ℕ) (l i : ℕ) : Type 0 where
     pub bound : i ≤ n
-    pub at : (t : Semantic) → Scoped t e → n ≤ width (own-tree (children (e .records) r)) → 0 < i → c ≡ nth (e .records) (i - 1) (first (e .records) r)
-    pub work : n ≤ width (own-tree (children (e .records) r))
-        → Rest e nest (outs o k) s (λ t. downs (e .records) nest t f r n) (outs o′ k′) s′ (λ t. downs (e .records) nest t f r i)
-    pub size-code : length o′ ≡ length o
-    pub size-consts : length k′ ≡ length k
+    pub few : n ≤ width (own-tree (children (e .records) r))
+    pub place : Scoped e → 0 < i → l ≡ child (i - 1)
+    pub work : Remains e (outs o k) w (λ c. downs e c r n) (outs o′ k′) w′ (λ c. downs e c r i)
+    pub sizes : SameSizes o k o′ k′
 
-  pub down-start : (o k : List ℕ) (s : Run) (a m c : ℕ) → a ≡ first (e .records) r → m ≡ n - 1 → c ≡ nth (e .records) m a → Downing o k s o k s c n
-  down-start o k s a m c q p d = record {
-    bound = omega arith;
-    at = λ t z le lt. d ∙ ap₂ (nth (e .records)) p q;
-    work = λ le. rest-start (λ t z A. refl);
-    size-code = refl;
-    size-consts = refl;
-  }
+  pub downing-start : (o k w : List ℕ) {a m l : ℕ} → n ≤ width (own-tree (children (e .records) r)) → a ≡ first (e .records) r → m ≡ n - 1 → l ≡ nth (e .records) m a
+      → Downing o k w o k w l n
+  downing-start o k w le q p d =
+      record { bound = omega arith; few = le; place = λ z lt. d ∙ ap₂ (nth (e .records)) p q; work = all-left (λ c z A. refl); sizes = (refl, refl) }
 
-  down-step : (t : Semantic) (i c : ℕ) (A : State) → 0 < i → c ≡ nth (e .records) (i - 1) (first (e .records) r)
-      → downs (e .records) nest t f r i A ≡ downs (e .records) nest t f r (i - 1) (visit-at (e .records) nest t c Target (words (e .records) f) A)
-  down-step t zero c A lt q = absurd (omega arith)
-  down-step t (suc i) c A lt q =
+  down-step : (c : Walk) (i l : ℕ) (A : State) → 0 < i → l ≡ child (i - 1) → downs e c r i A ≡ downs e c r (i - 1) (visit-in e c Target l A)
+  down-step c zero l A lt q = absurd (omega arith)
+  down-step c (suc i) l A lt q =
       let z : suc i - 1 ≡ i = omega arith in
-      ap (λ (x : ℕ). downs (e .records) nest t f r i (visit-at (e .records) nest t x Target (words (e .records) f) A)) (sym (q ∙ ap (λ (y : ℕ). nth (e
-      .records) y (first (e .records) r)) z))
-      ∙ ap (λ (y : ℕ). downs (e .records) nest t f r y (visit-at (e .records) nest t c Target (words (e .records) f) A)) (sym z)
+      ap (λ (x : ℕ). downs e c r i (visit-in e c Target x A)) (sym (q ∙ ap child z)) ∙ ap (λ (y : ℕ). downs e c r y (visit-in e c Target l A)) (sym z)
 
-  back-step : (t : Semantic) → Scoped t e → (i c x : ℕ) → i ≤ width (own-tree (children (e .records) r)) → 0 < i - 1
-      → c ≡ nth (e .records) (i - 1) (first (e .records) r) → x ≡ getD (e .back) c 0 → x ≡ nth (e .records) (i - 1 - 1) (first (e .records) r)
-  back-step t z i c x le lt q p =
-      let a = nth (e .records) (i - 1 - 1) (first (e .records) r) in
-      let w : c ≡ next (e .records) a
-      = q ∙ ap (λ (y : ℕ). nth (e .records) y (first (e .records) r)) (let v : i - 1 ≡ suc (i - 1 - 1) = omega arith in v) ∙ sym (nth-next (e .records) (i - 1
-      - 1) (first (e .records) r)) in
-      p ∙ ap (λ (y : ℕ). getD (e .back) y 0) w
-      ∙ z .backs a (λ v. nth-some (e .records) (i - 1) (first (e .records) r) (omega arith) (sym q ∙ w ∙ v))
+  back-step : Scoped e → (i l x : ℕ) → i ≤ width (own-tree (children (e .records) r)) → 0 < i - 1 → l ≡ child (i - 1) → x ≡ earlier-noted (e .notes) l → x ≡ child (i - 1 - 1)
+  back-step z i l x le lt q p =
+      let a = child (i - 1 - 1) in
+      let w : l ≡ next (e .records) a
+      = q ∙ ap child (let v : i - 1 ≡ suc (i - 1 - 1) = omega arith in v) ∙ sym (nth-next (e .records) (i - 1 - 1) (first (e .records) r)) in
+      p ∙ ap (earlier-noted (e .notes)) w ∙ z .backs a (λ v. nth-some (e .records) (i - 1) (first (e .records) r) (omega arith) (sym q ∙ w ∙ v))
 
-  module _ {o k o′ k′ : List ℕ} {s s′ : Run} {c i : ℕ} (h : Downing o k s o′ k′ s′ c i) where
-    pub down-again : {o″ k″ : List ℕ} {s″ : Run} {x : ℕ} → 0 < i → x ≡ getD (e .back) c 0
-        → Sim e nest (outs o′ k′) s′ (outs o″ k″) s″ (λ t. visit-at (e .records) nest t c Target (words (e .records) f))
-        → length o″ ≡ length o′ → length k″ ≡ length k′ → Downing o k s o″ k″ s″ x (i - 1)
-    down-again {x = x} lt q v p d = record {
+  module _ {o k w o′ k′ w′ : List ℕ} {l i : ℕ} (h : Downing o k w o′ k′ w′ l i) where
+    pub downing-again : {o″ k″ w″ : List ℕ} {x j : ℕ} → 0 < i → x ≡ earlier-noted (e .notes) l → j ≡ i - 1
+        → Sim e (outs o′ k′) w′ (outs o″ k″) w″ (λ c. visit-in e c Target l) → length o″ ≡ length o′ → length k″ ≡ length k′ → Downing o k w o″ k″ w″ x j
+    downing-again {x = x} {j} lt q m v p d = record {
       bound = omega (arith, h .bound);
-      at = λ t z le ls. back-step t z i c x (omega (arith, h .bound)) ls (h .at t z le lt) q;
-      work = λ le. rest-go (h .work le) v (λ t z A. down-step t i c A lt (h .at t z le lt));
-      size-code = p ∙ h .size-code;
-      size-consts = d ∙ h .size-consts;
+      few = h .few;
+      place = λ z ls. back-step z i l x (omega (arith, h .bound, h .few)) (omega arith) (h .place z lt) q ∙ ap child (let y : i - 1 - 1 ≡ j - 1 = omega arith in y);
+      work = less-left (h .work) v (λ c z A. down-step c i l A lt (h .place z lt) ∙ ap (λ (y : ℕ). downs e c r y (visit-in e c Target l A)) (sym m));
+      sizes = (p ∙ h .sizes .0, d ∙ h .sizes .1);
     }
 
-    pub down-end : i ≤ 0 → n ≤ width (own-tree (children (e .records) r)) → Sim e nest (outs o k) s (outs o′ k′) s′ (λ t. downs (e .records) nest t f r n)
-    down-end le w =
-        let q : i ≡ 0 = omega arith in
-        h .work w .rest _ _ (resim (λ t z A. ap (λ (y : ℕ). downs (e .records) nest t f r y A) q) stay)
+    pub downing-end : i ≤ 0 → Sim e (outs o k) w (outs o′ k′) w′ (λ c. downs e c r n)
+    downing-end le = none-left (h .work) (λ c z A. ap (λ (y : ℕ). downs e c r y A) (let q : i ≡ 0 = omega arith in q))
 
     -- a link back never leads to record r or before it
-    pub down-never : 0 < i → c ≤ r → n ≤ width (own-tree (children (e .records) r)) → Sim e nest (outs o k) s (outs o′ k′) s′ (λ t. downs (e .records) nest t f
-        r n)
-    down-never lt le w = record {
-      sim = λ t z o₀ A y.
-          let q = h .at t z w lt in
-          let ne = nth-some (e .records) (i - 1) (first (e .records) r) (omega (arith, h .bound)) in
+    pub downing-never : 0 < i → l ≤ r → {f : Walk → State → State} → Sim e (outs o k) w (outs o′ k′) w′ f
+    downing-never lt le = record {
+      sim = λ z c o₀ A y.
+          let q = h .place z lt in
+          let ne = nth-some (e .records) (i - 1) (first (e .records) r) (omega (arith, h .bound, h .few)) in
           absurd (⊎-elim (λ v. ne (sym q ∙ v)) (λ v. omega (arith, v .0)) (linked-nth (e .records) r (i - 1) refl q));
     }

@@ -1,7 +1,7 @@
-use mathlib.Core.Path.{refl, _∙_}
-use borrow.Author.Needs.{needs}
+use Rattle.codegen.proofs.AnswerLaws.{checked-roomy, checked-sound, demanded, refused-answer, run-answer}
 use Rattle.codegen.specs.Call.{writtenOf}
-use Rattle.codegen.proofs.AnswerLaws.{refused-answer, run-answer, checked-sound, checked-roomy, demanded}
+use borrow.Author.Needs.{needs}
+use mathlib.Core.Path.{_∙_, refl}
 use Rattle.codegen.proofs.call.gen_code.Statement.{statement}
 use Rattle.codegen.proofs.call.gen_code.Tie as tie
 
@@ -16,10 +16,9 @@ unfolding writtenOf
 returns c =
     let c1 = c .before in
     let c3 = c1 .before .before in
-    let c16 = c3 .before .before .before .before .before .before .before .before .before .before .before .before .before in
-    let a = c16 .args in (
-      refused-answer (a .strings .now) (a .bytes .now) (a .symbols .now) (a .references .now) (a .functions .now) (a .members .now) (a .records .now) _ _ _ _ _
-          _ _ (c3 .check .ensures) (c1 .why .given .1),
+    let c16 = c3 .before .before .before .before .before .before .before .before .before .before .before .before .before in (
+      refused-answer (c16 .args .strings .now) (c16 .args .bytes .now) (c16 .args .symbols .now) (c16 .args .references .now) (c16 .args .functions .now) (c16 .args
+          .members .now) (c16 .args .records .now) _ _ _ _ _ _ _ (c3 .check .ensures) (c1 .why .given .1),
       (refl, (refl, (refl, (refl, (refl, tt))))),
     )
 
@@ -30,12 +29,11 @@ accepted-requires : tie.Need-accepted-requires
 accepted-requires c κs =
     let c5 = c .before .before .before .before .before in
     let c7 = c5 .before .before in
-    let c20 = c7 .before .before .before .before .before .before .before .before .before .before .before .before .before in
-    let a = c20 .args in (
-      checked-sound (a .strings .now) (a .bytes .now) (a .symbols .now) (a .references .now) (a .functions .now) (a .members .now) (a .records .now) _ _ _ _ _
-          _ (c7 .check .ensures) (c5 .enum-told .given .1),
-      checked-roomy (a .strings .now) (a .bytes .now) (a .symbols .now) (a .references .now) (a .functions .now) (a .members .now) (a .records .now) _ _ _ _ _
-          _ (c7 .check .ensures) (c5 .enum-told .given .1),
+    let c20 = c7 .before .before .before .before .before .before .before .before .before .before .before .before .before in (
+      checked-sound (c20 .args .strings .now) (c20 .args .bytes .now) (c20 .args .symbols .now) (c20 .args .references .now) (c20 .args .functions .now) (c20 .args
+          .members .now) (c20 .args .records .now) _ _ _ _ _ _ (c7 .check .ensures) (c5 .enum-told .given .1),
+      checked-roomy (c20 .args .strings .now) (c20 .args .bytes .now) (c20 .args .symbols .now) (c20 .args .references .now) (c20 .args .functions .now) (c20 .args
+          .members .now) (c20 .args .records .now) _ _ _ _ _ _ (c7 .check .ensures) (c5 .enum-told .given .1),
     )
 
 same-length : tie.Need-same-length
@@ -59,24 +57,24 @@ returns-2 c =
     let c16 = c10 .before .before .before .before .before .before in
     let c18 = c16 .before .before in
     let c31 = c18 .before .before .before .before .before .before .before .before .before .before .before .before .before in
-    let a = c31 .args in
     let w = c10 .accepted .ensures in
-    let sound = checked-sound (a .strings .now) (a .bytes .now) (a .symbols .now) (a .references .now) (a .functions .now) (a .members .now) (a .records .now)
-    _ _ _ _ _ _ (c18 .check .ensures) (c16 .enum-told .given .1) in (
-      w .answer ∙ run-answer (a .strings .now) (a .bytes .now) (a .symbols .now) (a .references .now) (a .functions .now) (a .members .now) (a .records .now) _
-          _ _ _ _ _ (c18 .check .ensures) (c16 .enum-told .given .1),
+    let v = w .written in
+    let sound = checked-sound (c31 .args .strings .now) (c31 .args .bytes .now) (c31 .args .symbols .now) (c31 .args .references .now) (c31 .args .functions .now) (c31
+    .args .members .now) (c31 .args .records .now) _ _ _ _ _ _ (c18 .check .ensures) (c16 .enum-told .given .1) in (
+      w .answer ∙ run-answer (c31 .args .strings .now) (c31 .args .bytes .now) (c31 .args .symbols .now) (c31 .args .references .now) (c31 .args .functions .now) (c31
+          .args .members .now) (c31 .args .records .now) _ _ _ _ _ _ (c18 .check .ensures) (c16 .enum-told .given .1),
       (
-        w .markers,
+        v .markers,
         (
-          w .constants,
+          v .constants,
           (
-            w .names,
+            v .names,
             (
-              w .errors,
+              v .errors,
               (
-                w .lines,
-                demanded (a .symbols .now) (a .references .now) (a .functions .now) (a .members .now)
-                    (a .records .now) sound _ _ _ w,
+                v .lines,
+                demanded (c31 .args .symbols .now) (c31 .args .references .now) (c31 .args .functions .now) (c31 .args .members .now) (c31 .args .records
+                    .now) sound _ _ _ w,
               ),
             ),
           ),

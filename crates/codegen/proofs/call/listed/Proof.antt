@@ -1,65 +1,74 @@
-use mathlib.Core.Path.{subst⁻¹}
-use Prim.Native.Nat.{ℕ, _≤_}
-use native.Mathlib.Omega.{arith}
-use lib.ListN.{length}
-use borrow.Author.Needs.{needs}
-use Rattle.codegen.specs.Call.{semantic}
+use Prim.Native.Nat.{_<_, _≤_, ℕ}
+use Rattle.codegen.proofs.CallLaws.{errors-exact, met-exact, same-listing}
 use Rattle.codegen.specs.Names.{name-count}
-use Rattle.codegen.proofs.CallLaws.{listing-answered}
-use Rattle.codegen.proofs.PrefixLaws.{some-met, count-inside, count-fits}
-use Rattle.codegen.proofs.ReadyLaws.{tables-kept, space-enough, few-errors}
+use Rattle.codegen.specs.Walks.{noted-run}
+use Rattle.emit.specs.Words.{limit}
+use Rattle.pool.specs.NameWords.{over}
+use Rattle.pool.specs.Names.{names}
+use Rattle.rules.proofs.Alone.{streams}
+use borrow.Author.Needs.{needs}
+use lib.ListN.{length, take}
+use mathlib.Core.Path.{_∙_, ap, subst⁻¹}
 use Rattle.codegen.proofs.call.listed.Statement.{statement}
 use Rattle.codegen.proofs.call.listed.Tie as tie
 
-functions-met-requires : tie.Need-functions-met-requires
-functions-met-requires c κs =
-    let c16 = c .before .before .before .before .before .before .before .before .before .before .before .before .before .before .before .before in
-    let a = c16 .args in
-    let q = c16 .pre in (
-      q .0,
+functions-requires : tie.Need-functions-requires
+functions-requires c κs = search needs
+
+cast-met : tie.Need-cast-met
+cast-met c = search needs
+
+errors-requires : tie.Need-errors-requires
+errors-requires c κs = search needs
+
+cast-count : tie.Need-cast-count
+cast-count c = search needs
+
+streams-requires : tie.Need-streams-requires
+streams-requires c κs =
+    let c6 = c .before .before .before .before .before .before in
+    let c16 = c6 .before .before .before .before .before .before .before .before .before .before in (
+      c16 .pre .0,
       (
-        q .1 .0,
+        c16 .pre .1 .0 .sized,
         (
-          space-enough (a .symbols .now) (a .references .now) (a .functions .now) (a .members .now) (a .recs .now) (q .0 .sound) _ _ (a .named .now)
-              (a .errors .now) _ (q .1 .1 .0),
-          q .1 .1 .1 .0,
+          c16 .pre .1 .1 .spaced,
+          c6 .functions .ensures ∙ met-exact (c16 .args .notes .now) (c16 .args .recs .now) _ (c16 .pre .0)
+              (c16 .pre .1 .0),
         ),
       ),
     )
 
 name-words-requires : tie.Need-name-words-requires
 name-words-requires c κs =
-    let c24 = c .before .before .before .before .before .before .before .before .before .before .before .before .before .before .before .before .before .before
-    .before .before .before .before .before .before in
-    let a = c24 .args in
-    let q = c24 .pre in
-    let e = q .1 .1 .1 .0 in
-    let sound = q .0 .sound in
-    let s = some-met (a .symbols .now) (a .references .now) (a .functions .now) (a .members .now) (a .recs .now) sound in (
-      omega arith,
+    let c14 = c .before .before .before .before .before .before .before .before .before .before .before .before .before .before in
+    let c24 = c14 .before .before .before .before .before .before .before .before .before .before in
+    let e = c14 .functions .ensures ∙ met-exact (c24 .args .notes .now) (c24 .args .recs .now) _ (c24 .pre .0) (c24 .pre .1 .0) in
+    let l = c24 .pre .1 .1 in (
+      subst⁻¹ (λ (k : ℕ). 0 < k) e (l .some),
       (
-        subst⁻¹ (λ (k : ℕ). name-count (a .spans .now) k ≤ length (a .entries .now)) e
-            (count-inside (a .symbols .now) (a .references .now) (a .functions .now) (a .members .now) (a .recs .now) sound (a .entries .now) (a .spans .now)
-            (a .earlier .now) (q .0)),
-        subst⁻¹ (λ (k : ℕ). name-count (a .spans .now) k ≤ length (a .named .now)) e
-            (count-fits (a .symbols .now) (a .references .now) (a .functions .now) (a .members .now) (a .recs .now) sound (a .entries .now) (a .spans .now)
-            (a .earlier .now) (q .0)
-            (a .markers .now) (a .constants .now) (a .named .now) (a .errors .now) (a .lines .now) (q .1 .1 .0)),
+        subst⁻¹ (λ (k : ℕ). name-count (c24 .args .spans .now) k ≤ length (c24 .args .entries .now)) e (l .made),
+        subst⁻¹ (λ (k : ℕ). name-count (c24 .args .spans .now) k ≤ length (c24 .args .named .now)) e (l .named),
       ),
     )
 
 error-words-requires : tie.Need-error-words-requires
-error-words-requires c κs = search needs
+error-words-requires c κs =
+    let c12 = c .before .before .before .before .before .before .before .before .before .before .before .before in
+    let c17 = c12 .before .before .before .before .before in
+    let c29 = c17 .before .before .before .before .before .before .before .before .before .before .before .before in
+    let l = c29 .pre .1 .1 in
+    let e = c17 .errors .ensures ∙ errors-exact (noted-run (c29 .args .notes .now) (c29 .args .recs .now)) _ (l .few) (c29 .pre .1 .0) in
+    (c29 .pre .0 .walkable, (c12 .streams .ensures .0, (e, subst⁻¹ (λ (k : ℕ). k < limit) e (l .few))))
 
 size-requires : tie.Need-size-requires
 size-requires c κs = search needs
 
-mul-t28 : tie.Need-mul-t28
-mul-t28 c =
-    let c32 = c .before .before .before .before .before .before .before .before .before .before .before .before .before .before .before .before .before .before
+mul-t30 : tie.Need-mul-t30
+mul-t30 c =
+    let c33 = c .before .before .before .before .before .before .before .before .before .before .before .before .before .before .before .before .before .before .before
     .before .before .before .before .before .before .before .before .before .before .before .before .before .before in
-    let a = c32 .args in
-    let k = tables-kept (a .symbols .now) (a .references .now) (a .functions .now) (a .members .now) (a .recs .now) (c32 .pre .0 .sound) .fits .records-limit in
+    let h = c33 .pre .0 .numbered .few in
     let e = c .size .ensures in
     search needs
 
@@ -81,31 +90,34 @@ same-length-5 c = search needs
 returns : tie.Need-returns
 returns c =
     let c3 = c .before .before .before in
-    let c7 = c3 .before .before .before .before in
-    let c15 = c7 .before .before .before .before .before .before .before .before in
-    let c32 = c15 .before .before .before .before .before .before .before .before .before .before .before .before .before .before .before .before .before in
-    let a = c32 .args in
-    let q = c32 .pre in
-    let p = q .0 in
-    let t = semantic (a .symbols .now) (a .references .now) (a .functions .now) (a .members .now) in
-    let k = tables-kept (a .symbols .now) (a .references .now) (a .functions .now) (a .members .now) (a .recs .now) (p .sound) in
-    let f = few-errors (a .symbols .now) (a .references .now) (a .functions .now) (a .members .now) (a .recs .now) (p .sound) in
-    let e = q .1 .1 .1 .1 in
-    listing-answered (a .symbols .now) (a .references .now) (a .functions .now) (a .members .now) (a .recs .now) (a .entries .now) (a .spans .now)
-    (a .earlier .now) p (q .1 .0)
-    (a .markers .now) (a .constants .now) (a .named .now) (a .errors .now) (a .lines .now) _ _ _ _ _ (a .met) (a .count) (c .size .result) (q .1 .1 .0)
-    (q .1 .1 .1 .0) e
-    (c .size .ensures) (c15 .functions-met .ensures) (c7 .name-words .ensures) (c3 .error-words .ensures t (p .scoped) (k .levels-limit) e (omega arith))
+    let c8 = c3 .before .before .before .before .before in
+    let c16 = c8 .before .before .before .before .before .before .before .before in
+    let c21 = c16 .before .before .before .before .before in
+    let c23 = c21 .before .before in
+    let c33 = c23 .before .before .before .before .before .before .before .before .before .before in
+    let l = c33 .pre .1 .1 in
+    let e = c23 .functions .ensures ∙ met-exact (c33 .args .notes .now) (c33 .args .recs .now) _ (c33 .pre .0) (c33 .pre .1 .0) in
+    let d = c21 .errors .ensures ∙ errors-exact (noted-run (c33 .args .notes .now) (c33 .args .recs .now)) _ (l .few) (c33 .pre .1 .0) in
+    record {
+      answer = same-listing _ _ _ _ _ _ e d (c .size .ensures);
+      streams = c16 .streams .ensures .1;
+      names = c8 .name-words .ensures ∙ ap (λ (k : ℕ). over (take (name-count (c33 .args .spans .now) k) (c33 .args .entries .now)) (c33 .args .named .now)) e;
+      errors = c3 .error-words .ensures;
+    }
 
 pub listed-spec : {M : Type 1} → statement M
 listed-spec =
     tie.close
     (tie.spec
-    functions-met-requires
+    functions-requires
+    cast-met
+    errors-requires
+    cast-count
+    streams-requires
     name-words-requires
     error-words-requires
     size-requires
-    mul-t28
+    mul-t30
     same-length
     same-length-2
     same-length-3

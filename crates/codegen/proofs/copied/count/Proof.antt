@@ -1,7 +1,7 @@
 use mathlib.Core.Path.{ap}
 use Prim.Native.Nat.{_+_, _*_}
 use borrow.Author.Needs.{needs}
-use Rattle.pool.specs.declared.lookup.Span.{Span}
+use Rattle.pool.specs.declared.spans.Span.{Span}
 use Rattle.codegen.proofs.copied.count.Statement.{statement}
 use Rattle.codegen.proofs.copied.count.Tie as tie
 

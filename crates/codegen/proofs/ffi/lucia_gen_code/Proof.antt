@@ -1,17 +1,14 @@
-use mathlib.Core.Path.{ap, _∙_}
+use Rattle.codegen.proofs.AnswerLaws.{promised}
+use Rattle.pool.specs.Names.{names, semantic}
 use borrow.Author.Needs.{needs}
-use Rattle.rules.specs.Out.{Out}
-use Rattle.codegen.specs.Call.{semantic, numberIn, toldIn}
-use Rattle.codegen.specs.declared.call.Answer.{Answer}
-use Rattle.codegen.proofs.AnswerLaws.{same-words, same-demand}
 use Rattle.codegen.proofs.ffi.lucia_gen_code.Statement.{statement}
 use Rattle.codegen.proofs.ffi.lucia_gen_code.Tie as tie
 
 gen-code-requires : tie.Need-gen-code-requires
 gen-code-requires c κs = search needs
 
-tell-requires : tie.Need-tell-requires
-tell-requires c κs = search needs
+report-requires : tie.Need-report-requires
+report-requires c κs = search needs
 
 same-length : tie.Need-same-length
 same-length c = search needs
@@ -35,41 +32,19 @@ returns : tie.Need-returns
 returns c =
     let c2 = c .before .before in
     let c14 = c2 .before .before .before .before .before .before .before .before .before .before .before .before in
-    let c33 = c14 .before .before .before .before .before .before .before .before .before .before .before .before .before .before .before .before .before
-    .before .before in
-    let a = c33 .args in
-    let t = semantic (a .symbols .now) (a .references .now) (a .functions .now) (a .members .now) in
+    let c33 = c14 .before .before .before .before .before .before .before .before .before .before .before .before .before .before .before .before .before .before
+    .before in
+    let t = semantic (c33 .args .symbols .now) (c33 .args .references .now) (c33 .args .functions .now) (c33 .args .members .now) in
     let g = c14 .gen-code .ensures in
-    let e = g .0 in (
-      c2 .tell .ensures .0 ∙ ap numberIn e,
-      (
-        c2 .tell .ensures .1 ∙ ap (λ (z : Answer). toldIn z (a .told .now)) e,
-        (
-          same-words _ _ e (λ (o : Out). o .markers) t (a .records .now) (a .markers .now) _ (g .1 .0),
-          (
-            same-words _ _ e (λ (o : Out). o .constants) t (a .records .now) (a .constants .now) _ (g .1 .1 .0),
-            (
-              same-words _ _ e (λ (o : Out). o .names-out) t (a .records .now) (a .names .now) _ (g .1 .1 .1 .0),
-              (
-                same-words _ _ e (λ (o : Out). o .errors) t (a .records .now) (a .errors .now) _ (g .1 .1 .1 .1 .0),
-                (
-                  same-words _ _ e (λ (o : Out). o .lines) t (a .records .now) (a .lines .now) _ (g .1 .1 .1 .1 .1 .0),
-                  same-demand _ _ e t (a .records .now) _
-                      _ _ (g .1 .1 .1 .1 .1 .1),
-                ),
-              ),
-            ),
-          ),
-        ),
-      ),
-    )
+    promised _ _ t (c33 .args .records .now) _ _ _ _ _ (g .0) (c2 .report .ensures .0) (c2 .report .ensures .1)
+    (record { markers = g .1 .0; constants = g .1 .1 .0; names = g .1 .1 .1 .0; errors = g .1 .1 .1 .1 .0; lines = g .1 .1 .1 .1 .1 .0 }) (g .1 .1 .1 .1 .1 .1)
 
 pub lucia-gen-code-spec : {M : Type 1} → statement M
 lucia-gen-code-spec =
     tie.close
     (tie.spec
     gen-code-requires
-    tell-requires
+    report-requires
     same-length
     same-length-2
     same-length-3

@@ -1,13 +1,13 @@
-use borrow.Author.Needs.{needs}
 use Rattle.codegen.proofs.WalkLaws.{stream-walked}
+use borrow.Author.Needs.{needs}
 use Rattle.codegen.proofs.walks.stream.Statement.{statement}
 use Rattle.codegen.proofs.walks.stream.Tie as tie
 
-null-first-requires : tie.Need-null-first-requires
-null-first-requires c κs = search needs
+start-consts-requires : tie.Need-start-consts-requires
+start-consts-requires c κs = search needs
 
-start-requires : tie.Need-start-requires
-start-requires c κs = search needs
+begin-requires : tie.Need-begin-requires
+begin-requires c κs = search needs
 
 body-requires : tie.Need-body-requires
 body-requires c κs = search needs
@@ -21,11 +21,14 @@ same-length-2 c = search needs
 returns : tie.Need-returns
 returns c =
     let c4 = c .before .before .before .before in
-    let c5 = c4 .before in
-    let c10 = c5 .before .before .before .before .before in
-    stream-walked _ _ _ _ _ _ _ _ _ _ _ _ _ _ (c5 .start .ensures) (c10 .null-first .ensures) (c4 .body .ensures)
+    let c8 = c4 .before .before .before .before in
+    let c12 = c8 .before .before .before .before in
+    let c17 = c12 .before .before .before .before .before in
+    let a = c17 .args in
+    stream-walked (a .notes .now) (a .recs .now) (a .r) _ _ _ _ _ (a .frame .now) _ _ (c17 .pre .1) (c12 .start-consts .ensures .1) (c8 .begin .ensures) (c4 .body
+    .ensures) (c17 .pre .0)
 
 pub stream-spec : {M : Type 1} → statement M
 stream-spec =
     tie.close
-    (tie.spec null-first-requires start-requires body-requires same-length same-length-2 returns)
+    (tie.spec start-consts-requires begin-requires body-requires same-length same-length-2 returns)

@@ -1,4 +1,4 @@
-use Rattle.emit.proofs.CodeLaws.{push-as}
+use Rattle.emit.proofs.SinkLaws.{push-as}
 use borrow.Author.Needs.{needs}
 use Rattle.emit.proofs.code.push_op.Statement.{statement}
 use Rattle.emit.proofs.code.push_op.Tie as tie
@@ -13,12 +13,7 @@ same-length : tie.Need-same-length
 same-length c = search needs
 
 returns : tie.Need-returns
-returns c =
-    let c2 = c .before .before in
-    let c4 = c2 .before .before in
-    let c6 = c4 .before .before in
-    let a = c6 .args in
-    push-as (a .nest) (a .out .now) _ (a .st) _ _ _ (c4 .op-words .ensures) (c2 .push-words .ensures)
+returns c = push-as (c .before .before .before .op-words .ensures) (c .before .before .push-words .ensures)
 
 pub push-op-spec : {M : Type 1} → statement M
 push-op-spec = tie.close (tie.spec op-words-requires push-words-requires same-length returns)

@@ -1,16 +1,16 @@
--- The answer of the search, carried through first-found; the upvalues come next. Assumes nothing.
-use mathlib.Core.Path.{sym, ap, _∙_}
+use Rattle.pool.specs.Lookups.{localAt}
+use Rattle.pool.specs.Names.{Place, first-found}
+use Rattle.pool.specs.Scope.{index-in}
 use borrow.Author.Needs.{needs}
-use Rattle.pool.specs.Names.{Place, index-of, upvalue-symbols, first-found, else-upvalue}
-use Rattle.pool.specs.NameWords.{placed, namesIn}
+use mathlib.Core.Path.{_∙_, ap, sym}
 use Rattle.pool.proofs.lookup.load_symbol.Statement.{statement}
 use Rattle.pool.proofs.lookup.load_symbol.Tie as tie
 
 find-local-requires : tie.Need-find-local-requires
 find-local-requires c κs = search needs
 
-enum-known-i : tie.Need-enum-known-i
-enum-known-i c = search needs
+enum-known-id : tie.Need-enum-known-id
+enum-known-id c = search needs
 
 enum-told : tie.Need-enum-told
 enum-told c = search needs
@@ -20,21 +20,21 @@ load-upvalue-requires c κs = search needs
 
 returns : tie.Need-returns
 returns c =
-    let b = c .before .before .before in
-    let a = b .before .before .args in
-    let u = index-of (upvalue-symbols (namesIn (a .entries .now) (a .names) .upvalues)) (a .symbol) in
-    let g = index-of (namesIn (a .entries .now) (a .names) .globals) (a .symbol) in
-    _∙_ {b = else-upvalue u g} (c .load-upvalue .ensures) (sym (ap (λ (p : Place). first-found p u g) (sym (b .find-local .ensures) ∙ ap placed (c .before .enum-told .given .1))))
+    let c1 = c .before in
+    let c3 = c1 .before .before in
+    let c4 = c3 .before in
+    c .load-upvalue .ensures ∙ sym (ap (λ (p : Place). first-found p (index-in (c4 .args .scope .now) 3 (c4 .args .symbol)) (index-in (c4 .args .scope .now) 2 (c4
+    .args .symbol))) (sym (c3 .find-local .ensures) ∙ ap localAt (c1 .enum-told .given .1)))
 
 returns-2 : tie.Need-returns-2
 returns-2 c =
-    let b = c .before .before .before in
-    let a = b .before .before .args in
-    let u = index-of (upvalue-symbols (namesIn (a .entries .now) (a .names) .upvalues)) (a .symbol) in
-    let g = index-of (namesIn (a .entries .now) (a .names) .globals) (a .symbol) in
-    sym (ap (λ (p : Place). first-found p u g) (sym (b .find-local .ensures) ∙ ap placed (c .before .i .given .1)))
+    let c1 = c .before in
+    let c3 = c1 .before .before in
+    let c4 = c3 .before in
+    sym (ap (λ (p : Place). first-found p (index-in (c4 .args .scope .now) 3 (c4 .args .symbol)) (index-in (c4 .args .scope .now) 2 (c4 .args .symbol))) (sym (c3
+    .find-local .ensures) ∙ ap localAt (c1 .id .given .1)))
 
 pub load-symbol-spec : {M : Type 1} → statement M
 load-symbol-spec =
     tie.close
-    (tie.spec find-local-requires enum-known-i enum-told load-upvalue-requires returns returns-2)
+    (tie.spec find-local-requires enum-known-id enum-told load-upvalue-requires returns returns-2)

@@ -1,56 +1,76 @@
--- The invariant: the entries of the share's passed part are laid. Assumes nothing.
+use Prim.Native.Nat.{_-_, _≤_}
+use Rattle.pool.proofs.NameTables.{PassedPart, pass-end, pass-more, pass-most, pass-start}
+use Rattle.pool.specs.NameSteps.{classIn}
+use borrow.Author.Needs.{needs}
+use lib.ListN.{length}
 use mathlib.Core.Path.{_∙_, _≡_, refl}
 use native.Mathlib.Omega.{arith}
-use Prim.Native.Nat.{_-_, _≤_}
-use lib.ListN.{length}
-use Rattle.pool.proofs.NameTables.{Passed, pass-start, pass-more, pass-end}
 use Rattle.pool.proofs.names.pass.Statement.{statement}
 use Rattle.pool.proofs.names.pass.Tie as tie
 
 abbrev Inv-loop : tie.InvT-loop
-Inv-loop symbols share entries₀ parent table n m₀ i₀ entries m i =
-    (i ≤ length share) × (length entries ≡ length entries₀) × Passed table symbols parent share entries₀ n entries m i
+Inv-loop symbols share scope entries₀ table n at₀ i₀ entries at i =
+    (i ≤ length share) × (length entries ≡ length entries₀) × PassedPart table (classIn symbols scope) share entries₀ n entries at i
 
 abbrev μ-loop : tie.MeasureT-loop
-μ-loop symbols share entries₀ parent table n m₀ i₀ entries m i = length share - i
+μ-loop symbols share scope entries₀ table n at₀ i₀ entries at i =
+    length share - i
 
 loop-holds : tie.Need-loop-holds Inv-loop μ-loop
 loop-holds c =
-    let a = c .before .before .before .args in
-    (omega arith, refl, pass-start (a .table) (a .symbols .now) (a .parent) (a .share .now) (a .entries .now) (a .n))
+    let c3 = c .before .before .before in (
+      omega arith,
+      refl,
+      pass-start (c3 .args .table) (classIn (c3 .args .symbols .now) (c3 .args .scope .now)) (c3 .args .share .now) (c3 .args .entries .now) (c3
+          .args .n),
+    )
 
 mul-step : tie.Need-mul-step Inv-loop μ-loop
-mul-step c = omega arith
+mul-step c = search needs
 
 shared-slice-read-step : tie.Need-shared-slice-read-step Inv-loop μ-loop
-shared-slice-read-step c = omega arith
+shared-slice-read-step c = search needs
 
 step-requires : tie.Need-step-requires Inv-loop μ-loop
-step-requires c κs = tt
+step-requires c κs =
+    let c3 = c .before .before .before in
+    let c7 = c3 .before .before .before .before in
+    omega (
+      arith,
+      c7 .pre,
+      pass-most (c7 .args .table) (classIn (c7 .args .symbols .now) (c7 .args .scope .now)) (c7 .args .share .now) (c7 .args .entries .now) (c7
+          .args .n) _ _ _ (c3 .loop .inv .2),
+    )
 
 add-i : tie.Need-add-i Inv-loop μ-loop
-add-i c = omega arith
+add-i c = search needs
 
 loop-less : tie.Need-loop-less Inv-loop μ-loop
-loop-less c = omega arith
+loop-less c = search needs
 
 loop-again : tie.Need-loop-again Inv-loop μ-loop
 loop-again c =
-    let c6 = c .before .before .before .before .before .before in
-    let a = c6 .before .before .before .before .args in (
+    let c2 = c .before .before in
+    let c5 = c2 .before .before .before in
+    let c6 = c5 .before in
+    let c10 = c6 .before .before .before .before in (
       omega arith,
-      c .before .before .step .kept .1 .0 ∙ c6 .loop .inv .1,
-      pass-more (a .table) (a .symbols .now) (a .parent) (a .share .now) (a .entries .now) (a .n) _ _ _ _ _
-          (c .before .before .before .before .before .loop-test .taken) (c6 .loop .inv .2) (c .before .before .step .ensures),
+      c2 .step .kept .1 .1 .0 ∙ c6 .loop .inv .1,
+      pass-more (c10 .args .table) (classIn (c10 .args .symbols .now) (c10 .args .scope .now)) (c10 .args
+          .share .now) (c10 .args .entries .now) (c10 .args .n) _ _ _ _ _ (c5 .loop-test .taken) (c6 .loop .inv .2) (c2 .step .ensures .0) (c2 .step .ensures .1),
     )
 
 same-length : tie.Need-same-length Inv-loop μ-loop
-same-length c = c .before .loop .inv .1
+same-length c =
+    let c1 = c .before in
+    c1 .loop .inv .1
 
 returns : tie.Need-returns Inv-loop μ-loop
 returns c =
-    let a = c .before .before .before .before .before .args in
-    pass-end (a .table) (a .symbols .now) (a .parent) (a .share .now) (a .entries .now) (a .n) _ _ (c .before .loop .i) (omega arith) (c .before .loop .inv .2)
+    let c1 = c .before in
+    let c5 = c1 .before .before .before .before in
+    pass-end (c5 .args .table) (classIn (c5 .args .symbols .now) (c5 .args .scope .now)) (c5 .args .share .now) (c5 .args .entries .now) (c5 .args .n) _ _ (c1 .loop
+    .i) (omega arith) (c1 .loop .inv .2)
 
 pub pass-spec : {M : Type 1} → statement M
 pass-spec =

@@ -1,7 +1,6 @@
--- Each class has its slot. Assumes nothing.
-use mathlib.Core.Path.{sym, ap}
-use borrow.Author.Needs.{needs}
 use Rattle.pool.specs.NameWords.{slotOf}
+use borrow.Author.Needs.{needs}
+use mathlib.Core.Path.{ap, sym}
 use Rattle.pool.proofs.names.slot_of.Statement.{statement}
 use Rattle.pool.proofs.names.slot_of.Tie as tie
 
@@ -18,16 +17,22 @@ enum-known-class-2 : tie.Need-enum-known-class-2
 enum-known-class-2 c = search needs
 
 returns : tie.Need-returns
-returns c = sym (ap slotOf (c .enum-told .given .1))
+returns c =
+    sym (ap slotOf (c .enum-told .given .1))
 
 returns-2 : tie.Need-returns-2
-returns-2 c = sym (ap slotOf (c .enum-told2 .given .1))
+returns-2 c =
+    sym (ap slotOf (c .enum-told2 .given .1))
 
 returns-3 : tie.Need-returns-3
-returns-3 c = sym (ap slotOf (c .before .class .given .1))
+returns-3 c =
+    let c1 = c .before in
+    sym (ap slotOf (c1 .class .given .1))
 
 returns-4 : tie.Need-returns-4
-returns-4 c = sym (ap slotOf (c .before .class2 .given .1))
+returns-4 c =
+    let c1 = c .before in
+    sym (ap slotOf (c1 .class2 .given .1))
 
 pub slot-of-spec : {M : Type 1} → statement M
 slot-of-spec =

@@ -1,6 +1,6 @@
--- What was read of the parent decides, and the entry is laid or left out as entry-for says. Assumes nothing.
-use borrow.Author.Needs.{needs}
 use Rattle.pool.proofs.NameTables.{step-kept, step-left}
+use Rattle.pool.specs.NameSteps.{classIn}
+use borrow.Author.Needs.{needs}
 use Rattle.pool.proofs.names.step.Statement.{statement}
 use Rattle.pool.proofs.names.step.Tie as tie
 
@@ -10,27 +10,32 @@ classify-requires c κs = search needs
 slot-of-requires : tie.Need-slot-of-requires
 slot-of-requires c κs = search needs
 
-put-requires : tie.Need-put-requires
-put-requires c κs = search needs
+put3-requires : tie.Need-put3-requires
+put3-requires c κs = search needs
+
+add-result : tie.Need-add-result
+add-result c = search needs
 
 same-length : tie.Need-same-length
 same-length c = search needs
 
 returns : tie.Need-returns
 returns c =
-    let c4 = c .before .before .before .before in
-    let a = c4 .before .before .before .before .before .before .before .args in
-    step-kept (a .parent) (a .symbols .now) (a .table) (a .symbol) (a .entries .now) (a .n) _ _ _ _
-    (c4 .before .before .before .classify .ensures) (c4 .before .before .slot-of .ensures) (c4 .if1 .taken) (c .before .before .put .ensures)
-
-same-length-2 : tie.Need-same-length-2
-same-length-2 c = search needs
+    let c2 = c .before .before in
+    let c4 = c2 .before .before in
+    let c6 = c4 .before .before in
+    let c7 = c6 .before in
+    let c10 = c7 .before .before .before in
+    step-kept (c10 .args .entries .now) _ (c10 .args .n) (c10 .args .table) (c10 .args .symbol) ((classIn (c10 .args .symbols .now) (c10 .args .scope .now)) (c10 .args
+    .symbol)) _ _ (c7 .classify .ensures) (c6 .slot-of .ensures) (c4 .if1 .taken) (c2 .put3 .ensures .1)
 
 returns-2 : tie.Need-returns-2
 returns-2 c =
-    let a = c .before .before .before .before .before .before .before .args in
-    step-left (a .parent) (a .symbols .now) (a .table) (a .symbol) (a .entries .now) (a .n) _ _
-    (c .before .before .before .classify .ensures) (c .before .before .slot-of .ensures) (c .if1 .left)
+    let c2 = c .before .before in
+    let c3 = c2 .before in
+    let c6 = c3 .before .before .before in
+    step-left (c6 .args .entries .now) (c6 .args .entries .now) (c6 .args .n) (c6 .args .table) (c6 .args .symbol) ((classIn (c6 .args .symbols .now) (c6 .args .scope
+    .now)) (c6 .args .symbol)) _ _ (c3 .classify .ensures) (c2 .slot-of .ensures) (c .if1 .left)
 
 pub step-spec : {M : Type 1} → statement M
 step-spec =
@@ -38,8 +43,8 @@ step-spec =
     (tie.spec
     classify-requires
     slot-of-requires
-    put-requires
+    put3-requires
+    add-result
     same-length
     returns
-    same-length-2
     returns-2)
