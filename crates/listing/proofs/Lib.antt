@@ -6,6 +6,7 @@ pub mod RowsLaws
 pub mod StringsLaws
 pub mod ReadingLaws
 pub mod PrintLaws
+pub mod DecimalLaws
 pub mod PrintedLaws
 pub mod RoundTrip
 pub mod ReadSamples

@@ -3,7 +3,7 @@ use mathlib.Core.Bool.{Bool, true, false, cond}
 use mathlib.Core.List.{List, [], _∷_, _++_}
 use mathlib.Core.Path.{_≡_, refl, sym, ap, subst, _∙_}
 use Prim.Native.Nat.{ℕ, zero, suc, _+_, _-_, _*_, _≤_, _<_, _/_, _%_, _^_, min}
-use native.Mathlib.Nat.{not-suc-le-zero, pow-suc}
+use native.Mathlib.Nat.{not-suc-le-zero, pow-suc, div-eq-of-lt-le, le-div-iff-mul-le}
 use native.Mathlib.Omega.{arith}
 use native.Mathlib.Numerals.{add-one, sub-one}
 use lib.ListN.{length, set, take, drop, getD, drop-of-length-le, length-set, length-drop, List·getD-eq-default}
@@ -76,10 +76,6 @@ digits-step : (k n : ℕ) → 0 < k → digits k n ≡ cond (ltb n 10) [] (digit
 unfolding digits
 digits-step zero n h = absurd (not-suc-le-zero h)
 digits-step (suc k) n h = ap (λ (j : ℕ). cond (ltb n 10) [] (digits j (n / 10)) ++ (digit n ∷ [])) (sym (sub-one (suc k)))
-
-pub digits-none : (k n : ℕ) → k ≡ 0 → [] ≡ digits k n
-unfolding digits
-digits-none k n e = ap (λ (j : ℕ). digits j n) (sym e)
 
 pub digits-one : (k n : ℕ) → 0 < k → n < 10 → digit n ∷ [] ≡ digits k n
 digits-one k n h l =
@@ -361,6 +357,18 @@ parts-are f symbols recs ls ms ks ns ls′ ms′ ks′ ns′ a b c d w = same (c
 
 pub first-word : (lines : List ℕ) (i e : ℕ) → e ≡ getD lines i 0 → e ≡ getD lines (i + 0) 0
 first-word lines i e h = let z : i ≡ i + 0 = omega arith in h ∙ ap (λ (j : ℕ). getD lines j 0) z
+
+-- so many whole entries, and no room for another
+pub entries-cut : (words width most left count : ℕ) → count < most → left < width → count * width + left ≡ words → count ≡ min most (words / width)
+entries-cut words width most left count h l e =
+    let q : words / width ≡ count = div-eq-of-lt-le width (omega arith) (omega arith) in
+    omega arith
+
+-- as many entries as are asked for
+pub entries-all : (words width most left count : ℕ) → 0 < width → count ≡ most → count * width + left ≡ words → count ≡ min most (words / width)
+entries-all words width most left count z h e =
+    let q : count ≤ words / width = le-div-iff-mul-le z .1 (omega arith) in
+    omega arith
 
 pub listing-is : (symbols recs markers constants names errors lines : List ℕ) (met told f e : ℕ) → f ≡ min met (length lines / 7) → e ≡ min told (length errors / 3)
     → bytes "function section place word value more\n" ++ functionsText f 0 symbols recs lines markers constants names ++ errorRows errors e

@@ -2,7 +2,7 @@
 use mathlib.Core.Bool.{Bool, true, false, cond}
 use mathlib.Core.List.{List, [], _∷_, _++_}
 use mathlib.Core.Path.{_≡_}
-use Prim.Native.Nat.{ℕ, zero, suc, _+_, _-_, _*_, _/_, _%_, min}
+use Prim.Native.Nat.{ℕ, zero, suc, _+_, _-_, _*_, _/_, _%_, _^_, _≤_, _<_, min}
 use lib.ListN.{length, set, getD, drop}
 use lib.Dec.{ltb, eqb}
 use Rattle.opcode.specs.Names.{bytes, name}
@@ -36,6 +36,23 @@ digits (suc k) n = cond (ltb n 10) [] (digits k (n / 10)) ++ (digit n ∷ [])
 -- a number of 64 bits in decimal: 20 digits hold each of them
 abbrev pub decimal : ℕ → List ℕ
 decimal n = digits 20 n
+
+-- "powers of ten from a fixed list of twenty" (document 02, job 7): entry k is 10 to the k
+pub record Powers (ps : List ℕ) : Type 0 where
+  pub at : (k : ℕ) → k < 20 → getD ps k 0 ≡ 10 ^ k
+
+-- n has w digits: as many hold it, and no fewer do
+pub record Wide (n w : ℕ) : Type 0 where
+  pub some : 0 < w
+  pub most : w ≤ 20
+  pub below : n < 10 ^ w
+  pub first : 1 < w → 10 ^ (w - 1) ≤ n
+
+-- n is d times a power and a rest below it: d is the first digit
+pub record Leads (n power d rest : ℕ) : Type 0 where
+  pub sum : d * power + rest ≡ n
+  pub less : rest < power
+  pub one : d < 10
 
 -- the last hexadecimal digit of n, small
 abbrev pub hexDigit : ℕ → ℕ

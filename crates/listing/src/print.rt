@@ -18,7 +18,7 @@ use tables::ast::size;
 use tables::semantic::entry;
 use tables::semantic::symbol_name;
 ghost use mathlib.Core.Path.{_≡_};
-ghost use Prim.Native.Nat.{_+_, _*_, _≤_, min};
+ghost use Prim.Native.Nat.{_+_, _*_, _/_, _≤_, _<_, min};
 ghost use lib.ListN.{length};
 ghost use Rattle.tables.specs.Record.{size as sizeOf};
 ghost use Rattle.listing.specs.Print.{Wrote, beginning, takesOf, hasOperand, operandText, codeRow, codeRows, constName, constValue, constRow, constRows};
@@ -509,11 +509,21 @@ fn error_rows(out: &mut [u8], at: usize, errors: &[u32], count: usize) -> usize
     to
 }
 
-// The lesser of the two.
-fn least(a: usize, b: usize) -> usize
-    ensures { λ r. ⌜ r ≡ min a b ⌝ }
+// How many whole entries there are in so many words, at most `most`: counted off, since nothing that prints divides.
+fn entries(words: usize, width: usize, most: usize) -> usize
+    requires { ⌜ 0 < width ⌝ }
+    ensures { λ r. ⌜ r ≡ min most (words / width) ⌝ }
 {
-    if a < b { a } else { b }
+    let mut left = words;
+    let mut count: usize = 0;
+    while count < most {
+        if left < width {
+            return count;
+        }
+        left -= width;
+        count += 1;
+    }
+    count
 }
 
 // The listing of an accepted answer that told so many lines and errors: no more of them than there are words.
@@ -533,9 +543,9 @@ pub fn listing(
         (now (errors .entry)) (now (lines .entry)) met told) (now (out .entry)) 0 (now (out .exit)) r ⌝ }
 {
     let a = text(out, 0, b"function section place word value more\n");
-    let f = least(met, lines.len() / 7);
+    let f = entries(lines.len(), 7, met);
     let b = functions_rows(out, a, symbols, recs, lines, markers, constants, names, f);
-    let e = least(told, errors.len() / 3);
+    let e = entries(errors.len(), 3, told);
     error_rows(out, b, errors, e)
 }
 

@@ -4,11 +4,11 @@ ghost use Prim.Native.Nat.{_<_};
 ghost use Rattle.tables.specs.Record.{word as wordOf, size as sizeOf};
 ghost use Rattle.tables.specs.Forest.{guarded, first as firstOf, next as nextOf};
 
-// The number of records.
+// The number of records, of eight words each. Here and in `link` a shift: listings are printed without dividing.
 pub fn size(recs: &[u32]) -> usize
     ensures { λ n. ⌜ n ≡ sizeOf (now (recs .entry)) ⌝ }
 {
-    recs.len() / 8
+    recs.len() >> 3
 }
 
 // Word k of record r, 0 where the table has no such word.
@@ -82,7 +82,7 @@ fn link(recs: &[u32], r: usize, k: usize) -> usize
     let w = word(recs, r, k);
     let x = w as usize;
     if r < x {
-        if x < recs.len() / 8 {
+        if x < recs.len() >> 3 {
             return x;
         }
     }
