@@ -1,7 +1,7 @@
 #!/bin/sh
 # Counts instructions by callgrind, inside one call, and prints a table. usage: count.sh [SHAPE ..]
 here=$(cd "$(dirname "$0")" && pwd)
-[ $# -gt 0 ] || set -- flat deep loops functions constants names for unpack list table mix
+[ $# -gt 0 ] || set -- flat deep loops functions constants names mix
 cargo build --manifest-path "$here/Cargo.toml" --release --offline -q || exit 1
 out=$(mktemp)
 trap 'rm -f "$out"' EXIT

@@ -7,24 +7,7 @@ use crate::node::{
 };
 
 pub const SIZES: [usize; 4] = [64, 256, 1024, 4096];
-pub const SHAPES: [&str; 11] = [
-    "flat",
-    "deep",
-    "loops",
-    "functions",
-    "constants",
-    "names",
-    "for",
-    "unpack",
-    "list",
-    "table",
-    "mix",
-];
-
-/// How many constants a function may have beside Null.
-const CONSTANTS: u32 = 255;
-/// The most parts of one For, AssignUnpack or pattern: an index or a key each, a few constants more.
-const PARTS: u32 = 250;
+pub const SHAPES: [&str; 7] = ["flat", "deep", "loops", "functions", "constants", "names", "mix"];
 
 /// All symbols in the root, none elsewhere.
 fn root_only(function: u32) -> Vec<u32> {
@@ -79,72 +62,15 @@ fn deep(records: usize) -> Tables {
     while one(levels).records() > records - 3 {
         levels -= 1;
     }
-    filled(records, |_| one(levels))
-}
-
-/// As many of `make`'s exprs as fit into so many records, and Nulls for the rest.
-fn filled(records: usize, make: impl FnMut(u32) -> Node) -> Tables {
-    let mut exprs = fill(records - 3, make);
+    let mut exprs = fill(records - 3, |_| one(levels));
     let used: usize = exprs.iter().map(Node::records).sum();
     exprs.extend(fill(records - 3 - used, |_| null()));
     tables(&function(exprs), SYMBOLS, root_only)
 }
 
-/// Integers, 255 different ones: with Null as many as a function may have.
+/// Integers, all different.
 fn constants(records: usize) -> Tables {
-    tables(&function(fill(records - 3, |i| int(i % CONSTANTS))), SYMBOLS, root_only)
-}
-
-/// `make` with as many parts as one may have, or as fit, side by side.
-fn wide(records: usize, make: impl Fn(u32) -> Node) -> Tables {
-    let mut parts = PARTS;
-    while make(parts).records() > records - 3 {
-        parts -= 1;
-    }
-    filled(records, |_| make(parts))
-}
-
-/// `for a, b, .. in null {}`
-fn for_(records: usize) -> Tables {
-    wide(records, |parts| {
-        let mut children: Vec<Node> = (0..parts).map(ident).collect();
-        children.extend([null(), block(vec![])]);
-        node([18, 0, parts, 0], children)
-    })
-}
-
-/// An AssignUnpack of names.
-fn unpack(records: usize) -> Tables {
-    wide(records, |parts| {
-        let left = |i| node([34, 0, 0, 0], vec![ident(i)]);
-        let mut children: Vec<Node> = (0..parts).map(left).collect();
-        children.push(null());
-        node([26, 0, parts, 0], children)
-    })
-}
-
-/// An Ident pattern.
-fn name(i: u32) -> Node {
-    node([36, 0, i % SYMBOLS, i % SYMBOLS], vec![])
-}
-
-/// A Match with one pattern.
-fn matched(pattern: Node) -> Node {
-    let case = node([33, 0, 1, 0], vec![pattern, null()]);
-    node([15, 0, 0, 0], vec![null(), case])
-}
-
-/// A List pattern of names.
-fn list(records: usize) -> Tables {
-    wide(records, |parts| matched(node([38, 0, 0, 0], (0..parts).map(name).collect())))
-}
-
-/// A Table pattern of names, its keys all different.
-fn table(records: usize) -> Tables {
-    wide(records, |parts| {
-        let children = (0..parts).flat_map(|i| [int(i), name(i)]);
-        matched(node([37, 0, 0, 0], children.collect()))
-    })
+    tables(&function(fill(records - 3, int)), SYMBOLS, root_only)
 }
 
 /// Loads of a quarter as many names as there are records.
@@ -175,6 +101,7 @@ fn functions(records: usize) -> Tables {
 /// Loops of each kind, and matches with nested patterns.
 fn loops(records: usize) -> Tables {
     let lit = |value| node([35, 2, value, 0], vec![]);
+    let name = |symbol: u32| node([36, 0, symbol, symbol], vec![]);
     let list = |i: u32| node([38, i % 2, 0, 0], vec![lit(i % 8), name(i % 8)]);
     let table = move |i: u32| node([37, i % 2, 0, 0], vec![int(i % 4), list(i)]);
     let case =
@@ -198,10 +125,6 @@ pub fn shape(name: &str, records: usize) -> Option<Tables> {
         "names" => names(records),
         "functions" => functions(records),
         "loops" => loops(records),
-        "for" => for_(records),
-        "unpack" => unpack(records),
-        "list" => list(records),
-        "table" => table(records),
         _ => return None,
     })
 }

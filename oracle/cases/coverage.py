@@ -8,10 +8,6 @@ from model.words import *
 from . import rust
 
 OUTCOMES = ["listing", "listing with errors", "refusal", "input"]
-# What can bring a constant, and so be the place of a 17; an Ident is a property or an Item's.
-PLACES_OF_17 = [LIT, IDENT, EFFECT, FOR, IMPORT, ASSIGN_UNPACK, FUNCTION, HANDLER, LIT_PATTERN,
-                TABLE_PATTERN, LIST_PATTERN]
-LARGE_ONLY = (ASSIGN_UNPACK, TABLE_PATTERN)     # where 140 records are too few
 PLACES_OF_13 = [("in Binary", IS), ("on a name", IS), ("on a member", AND), ("on a member", OR),
                 ("on a member", IS)]
 
@@ -37,8 +33,6 @@ class Coverage:
                 return
             if refused.number == 13:
                 self.count["operator", *place_of_13(words[7], 8 * refused.place)] += 1
-            if refused.number == 17:
-                self.count["brings", words[7][8 * refused.place]] += 1
         for r in range(0, len(words[7]), 8):
             kind, detail = words[7][r:r + 2]
             self.count["kind", kind] += 1
@@ -56,7 +50,6 @@ class Coverage:
                     self.count["opcode", code] += 1
                 for constant in stream.constants:
                     self.count["constant", constant[0]] += 1
-                self.count["full"] += len(stream.constants) == MOST_CONSTANTS
                 for capture, _ in stream.names.captures:
                     self.count["capture", capture] += 1
             for error in answer.errors:
@@ -99,15 +92,13 @@ class Coverage:
                                   ("capture", "capture", [(1, "Local"), (2, "Upvalue")]),
                                   ("error", "error", enumerate(ERRORS))]:
             yield f"{title}: " + ", ".join(f"{name} {count[key, n]}" for n, name in names)
-        yield "refusal: " + ", ".join(f"{n}: {count['refusal', n]}" for n in range(1, 18))
+        yield "refusal: " + ", ".join(f"{n}: {count['refusal', n]}" for n in range(1, 17))
         yield "13: " + ", ".join(f"{OPERATORS[d]} {where} {count['operator', where, d]}"
                                  for where, d in PLACES_OF_13)
-        yield "17: " + ", ".join(f"{KIND_NAMES[kind]} {count['brings', kind]}" for kind in PLACES_OF_17)
-        yield f"functions with {MOST_CONSTANTS} constants: {count['full']}"
         yield (f"short assignments: And {count['short', AND]}, Or {count['short', OR]}, in "
                f"{count['short trees']} trees, {count['short listings']} of them with a listing")
 
-    def missing(self, texts=False):
+    def missing(self):
         """What no case has reached; PopJumpIfTrue can't be (reading 24), 2 is no matter of
         tables."""
         count = self.count
@@ -118,10 +109,8 @@ class Coverage:
                 if not count["opcode", code] and name != "PopJumpIfTrue"]
         out += [f"constant {name}" for n, name in enumerate(CONSTANTS) if not count["constant", n]]
         out += [f"error {name}" for n, name in enumerate(ERRORS) if not count["error", n]]
-        out += [f"refusal {n}" for n in range(1, 18) if n != 2 and not count["refusal", n]]
+        out += [f"refusal {n}" for n in range(1, 17) if n != 2 and not count["refusal", n]]
         out += [f"13 for {OPERATORS[d]} {where}" for where, d in PLACES_OF_13
                 if not count["operator", where, d]]
-        out += [f"17 at {KIND_NAMES[kind]}" for kind in PLACES_OF_17
-                if not count["brings", kind] and not (texts and kind in LARGE_ONLY)]
         out += [f"short {OPERATORS[d]}" for d in (AND, OR) if not count["short", d]]
         return out

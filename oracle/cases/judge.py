@@ -3,17 +3,15 @@
 import sys
 
 from model import text
-from model.counts import constants_of, label_count, most_constants
+from model.counts import label_count
 from model.listing import listing, refusal
 from model.run import generate
-from model.tree import check
-from model.words import MOST_CONSTANTS, Refused
+from model.words import Refused
 
 from . import rust
 
 # Who says what the answer is.
 RUST, PANIC, MODEL = "rust", "panic", "model"
-FEWEST = MOST_CONSTANTS // 3    # records: row 2 has 3 constants for each
 
 
 class Case:
@@ -35,26 +33,14 @@ class Case:
             self.answer = generate(self.words)
         except Refused as refused:
             self.refused = refused
-            if refused.number == 17 and not self.too_many_constants():
-                sys.exit("17 in a tree none of whose functions has so many constants")
             return
         check_counts(self.answer)
 
-    def too_many_constants(self):
-        """Job 2: whether a function's own tree has more than 256, whatever the run comes to. The
-        Rust has no such limit."""
-        if len(self.words[7]) // 8 < FEWEST:
-            return False
-        return most_constants(check(self.words)) > MOST_CONSTANTS
-
     def rust_can_judge(self):
-        """`input`, rows 1 to 9, Job 1's assignments and trees with more than 256 constants in a
-        function (Job 2) are outside what the Rust can be asked."""
+        """`input`, rows 1 to 9 and Job 1's assignments are outside what the Rust can be asked."""
         if self.line is not None or self.refused is not None and self.refused.number < 10:
             return False
-        if rust.left_out(self.words) or rust.short_assignments(self.words):
-            return False
-        return not self.too_many_constants()
+        return not rust.left_out(self.words) and not rust.short_assignments(self.words)
 
     def difference(self):
         """How the Rust departs from the model, or None."""
@@ -99,18 +85,12 @@ def ask_rust(cases):
 
 
 def check_counts(answer):
-    """Label counts and constants are those of the tree, at most 256 of them, and the room that row 2
-    asks for is enough."""
+    """The label counts are those of the tree, and the room that row 2 asks for is enough."""
     t = answer.t
     for stream in answer.streams:
         counted = label_count(t, stream.record)
         if stream.labels > counted or (stream.labels < counted and not answer.errors):
             sys.exit(f"labels: the run took {stream.labels}, the tree has {counted}")
-        constants = constants_of(t, stream.record)
-        if not stream.known.keys() <= constants or (
-                stream.known.keys() != constants and not answer.errors):
-            sys.exit(f"constants: the run has {stream.known.keys() ^ constants}, or the tree")
-        assert len(stream.constants) == len(stream.known) <= MOST_CONSTANTS
     markers, constants, names, errors, lines = answer.words()
     records = len(t.records)
     assert len(markers) <= 2 * answer.forecast() == 64 * records

@@ -7,7 +7,6 @@ from .build import breadth_first, preorder, scattered, walk
 
 SHORT = 0.5     # of the trees: most of their AssignOps on plain names become And or Or
 SHORT_SHAPES = 0.03
-FULL = 0.02     # trees with about 256 constants in a function
 
 
 def large(rng):
@@ -67,22 +66,12 @@ def shortened(rng, made):
     return shapes.short(rng) if draw > 1 - SHORT_SHAPES else made
 
 
-def filled(rng, sizes, made):
-    """A tree with about 256 constants in a function in place of a few, by draws of their own."""
-    if rng.random() >= FULL:
-        return made
-    return rng.choice([shapes.nearly_full] if sizes == "small" else [shapes.nearly_full, shapes.full])(rng)
-
-
-def case(seed, i, sizes="wide", faults=0.15, short=True, full=True):
-    """(words, whether they were damaged); without `short` and `full` the trees of a seed are those from
-    before Jobs 1 and 2."""
+def case(seed, i, sizes="wide", faults=0.15, short=True):
+    """(words, whether they were damaged)"""
     rng = random.Random(f"{seed} {i}")
     made = program(rng, sizes)
     if short:
         made = shortened(random.Random(f"short {seed} {i}"), made)
-    if full:
-        made = filled(random.Random(f"full {seed} {i}"), sizes, made)
     words = made.words(rng.choice([preorder, preorder, breadth_first, scattered]), rng)
     if rng.random() < faults:
         # Tables 4 and 6 lead to 10 to 12, which the Rust also meets.

@@ -1,4 +1,4 @@
-"""What document 01 and Job 2 of document 02 give by the tree alone: counts, and constants."""
+"""Counts that document 01 gives by the tree alone."""
 
 from .words import *
 
@@ -45,70 +45,3 @@ def label_count(t, r):
     elif record.kind == CASE:
         count = sum(1 + pattern_depth(t, c) for c in t.children(r)[:record.p])
     return count + sum(label_count(t, c) for c in own(t, r))
-
-
-def constant_of(detail, p, q):
-    """A Lit's detail with its p and q, unused words 0 (reading 21)."""
-    if detail in (INT, FLOAT):
-        return detail, p, q
-    return (detail, 0, 0) if detail == NULL else (detail, p, 0)
-
-
-def effect_key(t, name, params):
-    """Name string, the parameters' names and the variadic's (reading 20)."""
-    idents = tuple(t.records[c].q for c in t.children(params))
-    return "effect", name, idents, t.records[params].detail == 1
-
-
-def indices(count):
-    return {(INT, i, 0) for i in range(count)}
-
-
-def brought(t, r):
-    """The constants that a record and its children's words bring, whoever is named for 17."""
-    record, children = t.records[r], t.children(r)
-    kind, detail = record.kind, record.detail
-    if kind in (LIT, LIT_PATTERN):
-        return {constant_of(detail, record.p, record.q)}
-    if kind == EFFECT:
-        return {effect_key(t, record.p, children[1])}
-    if kind == HANDLER:
-        return {effect_key(t, t.records[children[0]].q, children[1])}
-    if kind == MEMBER and detail % SAFE in (DOT, DOUBLE_COLON):
-        return {(STR, t.records[children[1]].q, 0)}
-    if kind == LEFT and detail - 1 in (DOT, DOUBLE_COLON):
-        return {(STR, t.records[children[1]].q, 0)}
-    if kind == IMPORT:
-        return {(STR, record.q, 0)}
-    if kind == ITEM:
-        return {(STR, t.records[children[0]].q, 0)}
-    if kind == FOR:
-        return {(YIELD, 0, 0)} | (indices(record.p) if record.p != 1 else set())
-    if kind == ASSIGN_UNPACK:
-        return indices(record.p)
-    if kind in (TABLE_PATTERN, LIST_PATTERN):
-        parts = len(children) // 2 if kind == TABLE_PATTERN else len(children)
-        length = {(INT, parts, 0)} if detail == 0 else set()
-        return length | (indices(parts) if kind == LIST_PATTERN else set())
-    return set()
-
-
-def constants_of(t, r):
-    """The constants of a function by its own tree, with Null: a run with errors or a refusal may
-    bring fewer. A function inside is one constant."""
-    found = {(NULL, 0, 0)}
-    waiting = [r]
-    while waiting:
-        at = waiting.pop()
-        found |= brought(t, at)
-        children = t.children(at)
-        found |= {(FUNCTION_CONST, t.records[c].p, 0) for c in children
-                  if t.records[c].kind == FUNCTION}
-        waiting += own(t, at)
-    return found
-
-
-def most_constants(t):
-    """The most that one function's tree has."""
-    functions = [r for r, record in enumerate(t.records) if record.kind == FUNCTION]
-    return max(len(constants_of(t, r)) for r in functions)

@@ -39,7 +39,7 @@ class Answer:
 
 
 def run(t):
-    """The run over tables that passed rows 1 to 9: an Answer, or Refused 10 to 17."""
+    """The run over tables that passed rows 1 to 9: an Answer, or Refused 10 to 16."""
     visitor = Visitor(t)
     visitor.visit_function(0, root=True)
     return Answer(visitor)

@@ -1,7 +1,7 @@
 """The state of a run and its leaves: markers, labels, constants, loads and stores."""
 
 from .words import *
-from .counts import effect_key, loop_depth
+from .counts import loop_depth
 from .names import names_of
 
 
@@ -29,6 +29,13 @@ class Stream:
         self.depth = 0
 
 
+def constant_of(detail, p, q):
+    """A Lit's detail with its p and q, unused words 0 (reading 21)."""
+    if detail in (INT, FLOAT):
+        return detail, p, q
+    return (detail, 0, 0) if detail == NULL else (detail, p, 0)
+
+
 class State:
     """The run: streams of the functions met, errors, and the function it stands in."""
 
@@ -50,31 +57,29 @@ class State:
     def place(self, label):
         self.put("Label", label)
 
-    def constant(self, words, bringer, key=None):
+    def constant(self, words, key=None):
         """Equal ones are one; the first stays. Effects are equal by another key than their
-        words (reading 20). 17 at the record that would bring one too many; one that is there
-        already never fails (reading 64)."""
+        words (reading 20)."""
         key = words if key is None else key
         if key not in self.now.known:
-            if len(self.now.constants) == MOST_CONSTANTS:
-                raise Refused(17, bringer)
             self.now.known[key] = len(self.now.constants)
             self.now.constants.append(words)
         return self.now.known[key]
 
-    def load_const(self, words, bringer, key=None):
-        self.put("LoadConst", self.constant(words, bringer, key))
+    def load_const(self, words, key=None):
+        self.put("LoadConst", self.constant(words, key))
 
     def load_null(self):
-        """Null is there from the start, so no record brings it."""
-        self.load_const((NULL, 0, 0), None)
+        self.load_const((NULL, 0, 0))
 
-    def load_int(self, value, bringer):
-        """A length or an index."""
-        self.load_const((INT, value, 0), bringer)
+    def load_int(self, value):
+        self.load_const((INT, value, 0))
 
     def load_effect(self, name, params, record):
-        self.load_const((EFFECT_CONST, record, 0), record, effect_key(self.t, name, params))
+        """Name string, the parameters' names and the variadic's (reading 20)."""
+        idents = [self.t.records[c].q for c in self.t.children(params)]
+        variadic = self.t.records[params].detail == 1
+        self.load_const((EFFECT_CONST, record, 0), ("effect", name, tuple(idents), variadic))
 
     # -- names
 
@@ -115,5 +120,5 @@ class State:
         self.now = Stream(number, r, names)
         self.now.depth = loop_depth(self.t, r)
         self.streams.append(self.now)
-        self.constant((NULL, 0, 0), r)  # 'Constants start with Null'
+        self.constant((NULL, 0, 0))  # 'Constants start with Null'
         return outer

@@ -1,9 +1,9 @@
 """The visitors: each writes the markers of `visit_expr`, in its order, or what Job 1 of document
-02 says. Each names the record that brings a constant, for 17 (readings 61 to 63)."""
+02 says."""
 
 from .words import *
-from .counts import constant_of, short_assignment
-from .state import Cut, State
+from .counts import short_assignment
+from .state import Cut, State, constant_of
 
 
 class Visitor(State):
@@ -20,7 +20,7 @@ class Visitor(State):
             self.put("Return")
         self.now = outer
         if not root:
-            self.load_const((FUNCTION_CONST, record.p, 0), r)
+            self.load_const((FUNCTION_CONST, record.p, 0))
             if record.detail == DO:
                 self.put("Call", 0)
 
@@ -49,7 +49,7 @@ class Visitor(State):
     # -- leaves and what holds one or two expressions
 
     def lit(self, r, record, _children):
-        self.load_const(constant_of(record.detail, record.p, record.q), r)
+        self.load_const(constant_of(record.detail, record.p, record.q))
 
     def ident(self, r, _record, _children):
         self.load(r)
@@ -124,7 +124,7 @@ class Visitor(State):
         if member == BRACKET:
             self.visit_expr(rest[0])
         elif member in (DOT, DOUBLE_COLON):
-            self.load_const((STR, self.t.records[rest[0]].q, 0), rest[0])
+            self.load_const((STR, self.t.records[rest[0]].q, 0))
 
     def callee_member(self, record, children):
         """A Member that is called: Dot and DotMeta pass the table on; true if they do."""
@@ -254,7 +254,7 @@ class Visitor(State):
         if record.detail == 0:  # no `others`: the length must be right
             self.put("Copy", 1)
             self.put("GetLen")
-            self.load_int(len(patterns), r)
+            self.load_int(len(patterns))
             self.put("Eq")
             self.put("PopJumpIfFalse", label)
         for key, pattern in zip(keys, patterns):
@@ -262,7 +262,7 @@ class Visitor(State):
             if is_table:
                 self.lit(key, self.t.records[key], ())
             else:
-                self.load_int(key, r)
+                self.load_int(key)
             self.put("GetItem")
             self.visit_pattern(pattern, depth + 1, clean)
         self.put("Pop")
@@ -303,7 +303,7 @@ class Visitor(State):
         self.load_null()
         self.end_loop()
 
-    def for_(self, r, record, children):
+    def for_(self, _r, record, children):
         """A right side cut short leaves the loop open."""
         again, out = self.begin_loop()
         body = self.label()
@@ -312,7 +312,7 @@ class Visitor(State):
         self.put("Iter")
         self.place(again)
         self.load_null()
-        self.load_const((YIELD, 0, 0), r)
+        self.load_const((YIELD, 0, 0))
         self.put("RegisterHandler", body)
         self.put("Call", 1)
         self.put("Jump", out)
@@ -324,7 +324,7 @@ class Visitor(State):
         else:
             for i, ident in enumerate(idents):
                 self.put("Copy", 1)
-                self.load_int(i, r)
+                self.load_int(i)
                 self.put("GetItem")
                 self.store(ident)
             self.put("Pop")
@@ -365,7 +365,7 @@ class Visitor(State):
 
     def import_(self, r, record, children):
         path, rest = children[:record.p], children[record.p:]
-        self.put("Import", self.constant((STR, record.q, 0), r))
+        self.put("Import", self.constant((STR, record.q, 0)))
         if record.detail < 2:
             if not path:  # after the marker, before any store (reading 8)
                 raise Refused(15, r)
@@ -373,7 +373,7 @@ class Visitor(State):
         elif record.detail == 2:
             for item in rest:
                 idents = self.t.children(item)
-                name = self.constant((STR, self.t.records[idents[0]].q, 0), idents[0])
+                name = self.constant((STR, self.t.records[idents[0]].q, 0))
                 self.put("ImportFrom", name)
                 self.store(idents[-1])
             self.put("Pop")
@@ -444,13 +444,13 @@ class Visitor(State):
         self.store(ident)
         self.load_null()
 
-    def assign_unpack(self, r, _record, children):
+    def assign_unpack(self, _r, _record, children):
         lefts = children[:-1]
         self.visit_expr(children[-1])
         for _ in lefts[1:]:
             self.put("Copy", 1)
         for i, left in enumerate(lefts):
-            self.load_int(i, r)
+            self.load_int(i)
             self.put("GetItem")
             self.visit_left(left)
         self.load_null()

@@ -8,7 +8,6 @@ ENTRY_WORDS = {1: 2, 2: 1, 3: 2, 4: 1, 5: 2, 6: 1, 7: 8}
 # 'Sizes and the order of porting'
 LIMITS = {1: 1024, 2: 65536, 3: 1024, 4: 4096, 5: 256, 6: 1024, 7: 4096}
 LEVELS = 128
-MOST_CONSTANTS = 256  # of a function, Null included (Job 2 of document 02)
 
 # 'Records'
 (LIT, IDENT, PAREN, BLOCK, FN, EFFECT, TABLE, LIST, UNARY, BINARY, TYPE_CHECK, MEMBER, CALL, IF,

@@ -14,9 +14,6 @@ be the model's too.
 Of `and=` and `or=` on plain names the Rust is not asked. The cases of short_texts.py are stated by hand,
 label counts too; those of the sample are the model's. 13 on other operators is stated by hand as well
 (refusal_texts.py).
-
-With about 256 constants in a function (full_cases.py) refusals are stated by hand, and a listing is what
-the Rust gives now (oracle/build.sh must have been run); of a tree with more the Rust is not asked.
 """
 
 import pathlib
@@ -27,11 +24,10 @@ HERE = pathlib.Path(__file__).resolve().parent
 sys.path.insert(0, str(HERE.parent))
 
 from cases.build import Program, function, null
-from cases.judge import Case, ask_rust
 from model import text
 from model.run import generate
 from model.words import CODE, CONSTANTS, ERRORS, FLOAT, INT, NONE, Refused
-from replay import children, full_cases, hand, refusal_texts, short_texts
+from replay import children, hand, refusal_texts, short_texts
 from replay.make import lines
 
 TARGET = HERE.parent.parent / "crates" / "codegen_test"
@@ -140,18 +136,6 @@ def short_cases():
         yield words, enough(words), f"refused {number} {place}\n"
 
 
-def constant_cases():
-    """256 constants in a function, and one more."""
-    stated = [*full_cases.words_of(full_cases.small()), *full_cases.words_of(full_cases.large())]
-    cases = [Case(words) for _, words, _ in stated]
-    ask_rust(cases)
-    for (purpose, words, answer), case in zip(stated, cases):
-        if case.difference():
-            sys.exit(f"{purpose}: {case.difference()}")
-        given = "refused %d %d\n" % answer if answer else stored_answer(words, case.expected())
-        yield words, enough(words), given
-
-
 def early_cases():
     """Refusals 1 and 3 to 9, stated by hand, and both depths of nesting."""
     taken = {}
@@ -187,7 +171,7 @@ def space_cases():
 def main():
     tables, answers = [], []
     for words, room, answer in [*stored_cases(), *short_cases(), *early_cases(),
-                               *space_cases(), *constant_cases()]:
+                               *space_cases()]:
         model = model_answer(words, room)
         if answer != model:
             sys.exit(f"case {len(answers)}: stored\n{answer}the model says\n{model}")

@@ -2,14 +2,13 @@
 """Remakes crates/genlist_test/stdin and stdout, always the same: texts and genlist's answers.
 
 A line `====` stands between two texts and between two answers. In this order: cases A to J, nesting of
-128 and 129 levels, each error, every refusal that a text can reach, `and=` and `or=` on plain names, about
-256 constants in a function, the texts for the reader, the stored sample, a text that is too long, and one
-without a line feed at its end.
+128 and 129 levels, each error, every refusal that a text can reach, `and=` and `or=` on plain names, the
+texts for the reader, the stored sample, a text that is too long, and one without a line feed at its end.
 
 Each listing is the Rust's (oracle/build.sh must have been run), but for `and=` and `or=` on plain names,
-of which the Rust is not asked: these are stated by hand, and in the sample they are the model's. A tree with
-more than 256 constants in a function is not put to the Rust either. Refusals and `input` are stated by hand,
-but for the refusals of the sample, where the Rust panics. All must be the model's too.
+of which the Rust is not asked: these are stated by hand, and in the sample they are the model's. Refusals
+and `input` are stated by hand, but for the refusals of the sample, where the Rust panics. All must be
+the model's too.
 """
 
 import pathlib
@@ -20,10 +19,9 @@ HERE = pathlib.Path(__file__).resolve().parent
 sys.path.insert(0, str(HERE.parent))
 
 from cases import rust
-from cases.judge import Case
 from model import text
 from model.listing import answer_text
-from replay import full_cases, refusal_texts, short_texts, texts_cases
+from replay import refusal_texts, short_texts, texts_cases
 from replay.refusal_texts import nested
 from replay.texts_cases import LISTING
 
@@ -59,13 +57,6 @@ def short():
         yield given, answer
 
 
-def full():
-    """256 constants in a function, and one more (Job 2 of document 02)."""
-    for purpose, words, answer in full_cases.words_of(full_cases.few()):
-        given = text.write(words).replace(text.NAMES[1], purpose, 1)
-        yield given, "refusal place\n%d %d\n" % answer if answer else RUST
-
-
 def reader():
     """The texts for the reader; a listing is the Rust's."""
     for given, answer in texts_cases.checked():
@@ -91,16 +82,15 @@ def cases():
     yield from worked()
     yield nested("128 levels", 128), RUST
     yield nested("129 levels", 129), "refusal place\n8 129\n"
-    for group in (errors, refusals, short, full, reader, sample, last):
+    for group in (errors, refusals, short, reader, sample, last):
         yield from group()
 
 
 def told_by_rust(given):
     """The Rust's listings, of texts that are read and written again in the plain form; none for Job 1's
-    assignments, and none where a function has too many constants."""
+    assignments."""
     words = {one: text.read(one.encode()) for one in given}
-    asked = {one: text.write(w) for one, w in words.items()
-             if not rust.short_assignments(w) and not Case(w).too_many_constants()}
+    asked = {one: text.write(w) for one, w in words.items() if not rust.short_assignments(w)}
     return dict(zip(asked, rust.ask(asked.values(), extra=False), strict=True))
 
 

@@ -86,7 +86,7 @@ def choose():
     """The words kept, in the order drawn."""
     kept, seen, refusals = [deepest()], set(), collections.Counter()
     for i in range(DRAWS):
-        words, _ = mix.case(SEED, i, "small", 0.1, short=False, full=False)
+        words, _ = mix.case(SEED, i, "small", 0.1, short=False)
         answer, refused = (None, None) if rust.left_out(words) else answered(words)
         if answer is None and refused is None or len(words[7]) > 8 * LARGEST:
             continue
@@ -130,7 +130,7 @@ def choose_short():
     """More trees with Job 1's assignments, each with two new things or a new refusal."""
     kept, seen = [], set()
     for i in range(DRAWS):
-        words, _ = mix.case(SHORT_SEED, i, "small", 0.1, full=False)
+        words, _ = mix.case(SHORT_SEED, i, "small", 0.1)
         answer, refused = (None, None) if rust.left_out(words) else answered(words)
         if answer is None and refused is None or len(words[7]) > 8 * LARGEST:
             continue
@@ -157,10 +157,8 @@ def main():
         reached.add(case.words, case.answer, case.refused)
     (HERE / "inputs.txt").write_text("====\n".join(inputs))
     (HERE / "listings.txt").write_text("====\n".join(listings))
-    # These trees all pass rows 1 to 9, and are too small for 17.
-    early = [f"refusal {number}" for number in (*range(1, 10), 17)]
-    missing = [m for m in reached.missing() if m not in early and not m.startswith("17 at")]
-    missing = ", ".join(missing) or "nothing that can be"
+    early = [f"refusal {number}" for number in range(1, 10)]  # these trees all pass
+    missing = ", ".join(m for m in reached.missing() if m not in early) or "nothing that can be"
     table = [f"Made by oracle/sample/make.py, seed '{SEED}', {MADE}, from lucia-lang commit "
              f"{COMMIT}: {len(cases)} trees.",
              "Listings are the Rust's; refusals are the model's, where the Rust panics.",

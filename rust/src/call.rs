@@ -9,7 +9,7 @@ use crate::{
     tables::Tables,
 };
 
-/// The stack of the thread that a call is made on. The deepest trees take about 400 KB.
+/// The stack of the thread that a call is made on. The deepest trees take about 2.5 MB.
 const STACK: usize = 8 << 20;
 
 /// What a call answers.

@@ -5,7 +5,7 @@ use std::fmt;
 /// A refusal; `docs/REFUSALS.md` has each number with an example. No output word was changed.
 #[derive(Debug, Clone, Copy, PartialEq, Eq)]
 pub struct Refused {
-    /// 1 to 17.
+    /// 1 to 16.
     pub number: u32,
     /// The table, output, entry or record where it arose, by the number.
     pub place: u64,
@@ -31,7 +31,6 @@ impl Refused {
             14 => ["record", "as many targets as values are needed"],
             15 => ["record", "an import with no path"],
             16 => ["record", "a function met after an error skipped one"],
-            17 => ["record", "more than 256 constants in a function"],
             _ => ["place", "unknown"],
         }
     }

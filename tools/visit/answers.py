@@ -16,7 +16,7 @@ HEAD = [
     ('Rattle·tables.specs.Record', ['word', 'words', 'size']), ('Rattle·tables.specs.Forest', ['first', 'next', 'forest', 'children', 'own-tree', 'Nodes']),
     ('Rattle·tables.specs.declared.refusal.RunRule.the-variants', ['Lengths']), ('Rattle·rules.specs.declared.Flow.the-variants', ['Refused']),
     ('Rattle·pool.specs.Value', ['below', 'child']),
-    ('Rattle·rules.specs.Marker', ['Jump', 'PopJumpIfFalse', 'RegisterHandler', 'JumpIfTrueOrPop', 'JumpIfFalseOrPop', 'Pop', 'Copy', 'Swap', 'BuildTable', 'BuildList', 'GetItem',
+    ('Rattle·rules.specs.Marker', ['Jump', 'PopJumpIfFalse', 'JumpIfTrueOrPop', 'JumpIfFalseOrPop', 'Pop', 'Copy', 'Swap', 'BuildTable', 'BuildList', 'GetItem',
                                    'TypeCheck', 'Call', 'Return', 'LoadLocals', 'Import', 'ImportGlob', 'CheckEffect', 'MarkAddStackSize', 'LoadConst']),
     ('Rattle·rules.specs.Step', ['Expr', 'Callee', 'Tail', 'Target', 'Before', 'After', 'Get', 'Set', 'push-op', 'width']),
     ('Rattle·rules.specs.Arms', ['stream-steps', 'arguments', 'is-short', 'is-tail', 'assign-multi-steps']),
@@ -27,7 +27,7 @@ HEAD = [
     ('Rattle·emit.proofs.MarkLaws', ['placed', 'jumped', 'backed', 'said']), ('Rattle·emit.proofs.LoopLaws', ['begun', 'behind']),
     ('Rattle·emit.proofs.BarLaws', ['in-do', 'bar-yes', 'bar-no']),
     ('Rattle·emit.proofs.InsideLaws', ['inside-none', 'inside-still', 'inside-skipped', 'inside-goes']),
-    ('Rattle·emit.proofs.VisitLaws', ['ident-number']), ('Rattle·emit.proofs.PartLaws', ['visits-part', 'block-none', 'nth-next']),
+    ('Rattle·emit.proofs.PartLaws', ['visits-part', 'block-none', 'nth-next']),
     ('Rattle·plain.specs.Operators', ['callOf', 'shortAssign', 'shortJump']), ('Rattle·plain.specs.Runs', ['argumentCount']),
     ('Rattle·plain.proofs.CountLaws', ['width-past', 'tail-call']), ('Rattle·plain.proofs.EndLaws', ['below-nodes', 'simple-part']),
     ('Rattle·plain.proofs.OperatorLaws', ['is-and', 'is-or', 'not-short', 'operated', 'short-assign']),
@@ -143,12 +143,12 @@ for i in ('', '2', '3'):
 
 SEC = 'cond cases repeat whilst each BREAK CONTINUE ret import glo assign update unpack multi'.split()
 ARMS2 = [(14 + i, f'@{m} .ensures') for i, m in enumerate(SEC)]
-ARMS2[5], ARMS2[6] = (19, '@break-loop .ensures (@args .notes .now) _'), (20, '@continue-loop .ensures (@args .notes .now) _')
+ARMS2[5], ARMS2[6] = (19, '@break-loop .ensures (@args .notes .now)'), (20, '@continue-loop .ensures (@args .notes .now)')
 V['arm'] = group(ARMS2, f'later-by {E} v {r} %s', (f'to-last {E} v {r} _', '(@rest .ensures)'), 1)
 for m in SEC: V['arm'][f'{m}-requires'] = same(8, 11)
 V['arm'].update({'multi-requires': same(9, 11), 'rest-requires': same(10, 11)})
 
-MADE = [('h1', '@inner .ensures .nests _ .sim z v o₀ A h'), ('h2', f'function-loaded {r} (word {R} {r} 2) (@function-id .ensures) (@push-load-const .ensures) h1')]
+MADE = [('h1', '@inner .ensures .sim z v o₀ A h'), ('h2', f'function-loaded {r} (word {R} {r} 2) (@function-id .ensures) (@push-load-const .ensures) h1')]
 ARMS3 = [
     (30, (DE + ' own-stream', yes(2, '@if1 .taken', sim(MADE, op('Call', 0, 'push-call', 'h2'))))),
     (30, (DE + ' own-stream', no(2, '@if1 .left', sim(MADE, 'h2')))),
@@ -161,7 +161,7 @@ V['rest'].update({'inner-requires': same(6, 10), 'catch-requires': same(8, 10), 
 SMALL = f'(let s : word {R} {r} 2 ≤ limit = omega (arith, @shared-slice-known .given ({r} * 8 + 2)) in s)'
 NESTS = '(sym (@nests .ensures) ∙ not-false _ (@if1 .left))'
 GOES = '(sym (@goes-on .ensures) ∙ not-false _ (@if2 .left))'
-def inside(s): return f'record {{\n        nests = λ k. resim (λ v z A. stream-inside {E} v {r} A)\n          ({s});\n      }}'
+def inside(s): return f'resim (λ v z A. stream-inside {E} v {r} A)\n      ({s})'
 
 
 INS = f'{E} {r} {W} (λ v. does {E} v {r} (stream-steps {W}))'
@@ -170,7 +170,7 @@ V['inner'] = {
     'returns': inside(f'inside-none {INS} (sym (@nests .ensures) ∙ not-true _ (@if1 .taken))'),
     'returns-2': inside(f'inside-still {INS} (sym (@goes-on .ensures) ∙ not-true _ (@if2 .taken))'),
     'returns-3': inside(f'inside-skipped {INS} {SMALL} {NESTS} {GOES} (@is-numbered .ensures) (not-true _ (@if3 .taken)) (@refuse .ensures)'),
-    'returns-4': inside(f'inside-goes {INS} {SMALL} {NESTS} {GOES} (@is-numbered .ensures) (not-false _ (@if3 .left)) (@start-consts .ensures {R}) (@begin-function .ensures)'
+    'returns-4': inside(f'inside-goes {INS} {SMALL} {NESTS} {GOES} (@is-numbered .ensures) (not-false _ (@if3 .left)) (@begin-function .ensures)'
                         ' (@body .ensures) (@keep-error .ensures) (@end-function .ensures)')}
 BODY = [('h1', visit(E1, 'expr', 'h')), ('h2', visit(E2, 'expr2', 'h1'))]
 V['body'] = {
@@ -191,7 +191,7 @@ V['block'] = {
     'returns-2': f'{LEFT}(blocking-last {ITEM} (@if3 .taken))',
     'loop-less': f'falls-next {R} _ _ (@loop .inv .some) (@next .ensures)',
     'loop-again': f'blocking-again {ITEM} (@if3 .left)\n      ({sim([], pop("h"))})\n'
-                  f'      ({kept("push-pop", 0)} ∙ {kept("keep-error", 0)} ∙ {kept("expr", 2)})',
+                  f'      ({kept("push-pop", 0)} ∙ {kept("keep-error", 0)} ∙ {kept("expr", 2)}) ({kept("expr", 3)})',
     'returns-3': f'{LEFT}(blocking-still {E} {r} (@loop .inv) (sym (@goes-on .ensures) ∙ @if2 .left))'}
 ALL = f'{E} (@args .item) (@args .n)'
 V['all'] = {
@@ -200,7 +200,7 @@ V['all'] = {
     'returns': f'all-none {ALL} (@loop .inv) (@if1 .taken)',
     'expr-requires': f'(falls-along {N} (@args .item) _ 12 13 t (@pre .0) (lit< tt) (@loop .inv .along) (@if1 .left) (λ e. @if1 .left (@loop .inv .none e)), tt)',
     'sub-left': 'let g = @loop-test .taken in search needs', 'loop-less': 'omega (arith, @loop-test .taken)',
-    'loop-again': f'all-again {ALL} (@loop .inv) (@loop-test .taken) (@if1 .left) (@next .ensures) refl (@expr .ensures) ({kept("expr", 2)})',
+    'loop-again': f'all-again {ALL} (@loop .inv) (@loop-test .taken) (@if1 .left) (@next .ensures) refl (@expr .ensures) ({kept("expr", 2)}) ({kept("expr", 3)})',
     'returns-2': f'all-end {ALL} (@loop .inv) (@loop-test .left)'}
 NEXT2 = f'(next-of {R} (@next .ensures) (@first2 .ensures))'
 V['func'] = {
@@ -271,7 +271,7 @@ V['prop'] = {
     'expr-requires': child(L2, 6),
     'returns': (DE, chosen('either-yes', f'(eq-eqb _ 0 (sym (member-tag {P}) ∙ @match .keys1))', sim([], visit(E2, 'expr', 'h')))),
     'returns-2': (DE, f'resim (λ v z A. {first_no(f"({HELD} .0)")} ∙ either-yes {E} v {r} _ _ _ A (lt-ltb _ 3 ({HELD} .1)))\n      ('
-                  + sim([], f'str-loaded {SPOT} LoadConst (child {K} 1 .q) {NAME} (sym (ident-number {R} {r} {W} 1 {E2})) (@push-load-const .ensures) h') + ')'),
+                  + sim([], f'str-loaded {SPOT} LoadConst (child {K} 1 .q) {NAME} (@push-load-const .ensures) h') + ')'),
     'returns-3': (DE, f'resim (λ v z A. {first_no(f"({NONE} .0)")} ∙ either-no {E} v {r} _ _ _ A (le-ltb _ 3 ({NONE} .1))) stay')}
 
 # ---- calls
@@ -309,7 +309,7 @@ V['bodies'] = {
     'loop-less': f'falls-next {R} _ _ (@loop-test .taken) (@next .ensures)',
     'loop-again': f'bodying-again {B_} (@loop-test .taken) (@next .ensures) (@next-label .ensures)\n      (λ r i j q d. ' + sim(
         [('h1', 'placed r i refl q (@push-label .ensures) h'), ('h2', 'visited z Expr refl (@expr .ensures) h1')], 'jumped r Jump j refl d (@push-jump .ensures) h2')
-        + f')\n      ({kept("push-jump", 0)} ∙ {kept("expr", 2)} ∙ {kept("push-label", 0)})',
+        + f')\n      ({kept("push-jump", 0)} ∙ {kept("expr", 2)} ∙ {kept("push-label", 0)}) ({kept("expr", 3)})',
     'returns': f'record {{ bodies = λ r i j p q. bodying-end {B_} (@loop-test .left) r i j p q }}'}
 COUNT = (f'(@params-len .ensures ∙ ap (λ (y : ℕ). cap (width (below (own-tree (forest {R} y)) 0))) {E2}'
          f' ∙ ap (λ (k : Nodes). cap (width k)) (sym (below-nodes {R} (first {R} {r}) 0)))')
@@ -357,10 +357,9 @@ V['each'] = {
     'expr-requires': child(LN()), 'expr-requires-2': child(f'(child2 {R} (@next .ensures) {LN()})'),
     'returns': sim(taken('l', 'get-label', 'h', 'h1') + taken('m', 'get-label2', 'h1', 'h2') + taken('k', 'get-label3', 'h2', 'h3') + [
         ('h4', f'given (behind-body _ {r} A) (begun {r} _ _ _ l h3 (@begin-loop .ensures))'), ('h5', visit(NP, 'expr', 'h4')),
-        ('h6', f'@iterate .ensures _ l .moves v o₀ _ h5'), ('j1', jump('RegisterHandler', 'k', 'push-register-handler', 'h6')),
-        ('j2', op('Call', 1, 'push-call', 'j1')), ('h7', jump('Jump', 'm', 'push-jump', 'j2')), ('h8', place('k', 'push-label', 'h7')),
-        ('h9', op('MarkAddStackSize', 3, 'push-mark-add-stack-size', 'h8')), ('i1', pop('h9')), ('i2', '@targets .ensures .moves v o₀ _ i1'),
-        ('i3', visit(NX, 'expr2', 'i2'))], f'given (for-run {E} v {r} A) (@end-for .ensures {R} _ .moves {r} _ _ l m .moves v o₀ _ i3)')}
+        ('h6', f'@iterate .ensures .moves {r} _ _ l k .moves v o₀ _ h5'), ('h7', jump('Jump', 'm', 'push-jump', 'h6')), ('h8', place('k', 'push-label', 'h7')),
+        ('h9', op('MarkAddStackSize', 3, 'push-mark-add-stack-size', 'h8')), ('i1', pop('h9')), ('i2', f'@targets .ensures {r} .moves v o₀ _ i1'),
+        ('i3', visit(NX, 'expr2', 'i2'))], f'given (for-run {E} v {r} (@p .ensures) {E1} A) (@end-for .ensures .moves {r} _ _ l m .moves v o₀ _ i3)')}
 TC = f'(tail-call {R} _ (sym (@is-tail .ensures) ∙ @if2 .taken))'
 TQ = f'(ap (λ (x : ℕ). is-tail (own-tree (forest {R} x))) (sym {E1}) ∙ sym (@is-tail .ensures) ∙ @if2 .%s)'
 BAR = f'{W} (z .small) (@is-in-do .ensures) h (@if1 .%s)'
@@ -372,7 +371,7 @@ V['ret'] = {
                      f'given (ret-tail {E} v {r} {TQ % "taken"} A) ({null("h3")})'),
     'returns-3': sim(RET + [('h3', visit(E1, 'expr', 'h2')), ('h4', op('Return', 0, 'push-return', 'h3'))],
                      f'given (ret-plain {E} v {r} {TQ % "left"} A) ({null("h4", "push-null2")})')}
-IM = [('h1', f'str-loaded {r} Import (word {R} {r} 3) (@q .ensures) refl (@push-import .ensures) h')]
+IM = [('h1', f'str-loaded {r} Import (word {R} {r} 3) (@q .ensures) (@push-import .ensures) h')]
 SIMPLE = f'either-yes {E} v {r} _ _ _ _ (lt-ltb _ 2 (subst (λ (d : ℕ). d < 2) (@detail .ensures) (@if1 .taken)))'
 LATER = f'either-no {E} v {r} _ _ _ _ (le-ltb (word {R} {r} 1) 2 %s)'
 IQ = '(sym (@detail .ensures) ∙ @match .keys1)'
@@ -442,7 +441,7 @@ V['unpack'] = {
     'add-i': 'let g = @loop-test .taken in let b = @p .ok in search needs', 'loop-less': 'omega (arith, @loop-test .taken)',
     'loop-again': f'unpacking-again {U_} (@loop-test .taken) (@next .ensures)\n      (' + sim(
         [('h1', f'int-loaded {r} _ refl (@push-load-const .ensures) h'), ('h2', op('GetItem', 0, 'push-get-item', 'h1'))], visit('refl', 'target', 'h2', 'Target'))
-        + f')\n      ({kept("target", 2)} ∙ {kept("push-get-item", 0)} ∙ {kept("push-load-const", 1)})',
+        + f')\n      ({kept("target", 2)} ∙ {kept("push-get-item", 0)} ∙ {kept("push-load-const", 1)}) ({kept("target", 3)} ∙ {kept("push-load-const", 2)})',
     'returns': sim([('h1', visit(NP, 'expr', 'h')), ('h2', f'@copies .ensures _ _ {r} .moves v o₀ _ h1'), ('h3', f'unpacking-end {U_} (@loop-test .left) .sim z v o₀ _ h2')],
                    f'given (unpack-run {E} v {r} (@p .ensures) A) ({null("h3")})')}
 MEQ = f'(ap (λ (n : ℕ). n + n) (sym (@p .ensures)) ∙ @if1 .left ∙ {WIDTH % E1})'
@@ -456,7 +455,7 @@ V['multi'] = {
     'loop-holds': f'downing-start {E} {r} _ _ _ _ (let q = @if1 .left ∙ {WIDTH % E1} in omega (arith, q)) {E1} (@less .ensures) (@nth2 .ensures)',
     'returns-2': sim([ALLOF], f'downing-never {M_} (@loop-test .taken) (@if2 .taken) {{f = λ w B. does {E} v {r} (assign-multi-steps {W} {K}) A}} .sim z v o₀ _ h1'),
     'sub-i': 'let g = @loop-test .taken in search needs', 'loop-less': 'omega (arith, @loop-test .taken)',
-    'loop-again': f'downing-again {M_} (@loop-test .taken) (@earlier .ensures) refl (@target .ensures) ({kept("target", 2)})',
+    'loop-again': f'downing-again {M_} (@loop-test .taken) (@earlier .ensures) refl (@target .ensures) ({kept("target", 2)}) ({kept("target", 3)})',
     'returns-3': sim([ALLOF, ('h2', f'downing-end {M_} (@loop-test .left) .sim z v o₀ _ h1')], f'given (multi-yes {E} v {r} (@p .ensures) {MEQ} A) ({null("h2")})')}
 
 # a visitor whose record is not named r: all its answers speak of that name
@@ -466,8 +465,7 @@ for m, x in {'catch': 'handler'}.items():
 # ---- measures: how it counts, the rank, where the record stands among the parameters
 
 RANK = {m: ('level', 8, 5) for m in V}
-RANK.update({m: ('level', 6, 5) for m in ('and', 'or', 'short', 'prop')})
-RANK['inner'] = ('level', 6, 4)
+RANK.update({m: ('level', 6, 5) for m in ('inner', 'and', 'or', 'short', 'prop')})
 RANK.update({m: ('levelOr', 13, 5) for m in ('all', 'bodies', 'called')})
 RANK.update({m: ('levelOr', 8, 5) for m in ('target', 'fetch')})
 RANK.update({'expr': ('levelOr', 12, 5), 'arm': ('level', 11, 5), 'rest': ('level', 10, 5), 'multi': ('level', 9, 5), 'body': ('level', 5, 5)})

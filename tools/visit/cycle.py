@@ -22,16 +22,20 @@ DIR = f'{ROOT}/crates/visit/proofs/{CYC}'
 MEMBERS = CYC[1:].split('+')
 print('bytes left for the cycle\'s name:', 255 - max(len(f'{BASE}.Proof.{m}.oantt'.encode()) for m in MEMBERS))
 D = lambda n: ' .1' * n + ' .0'
-# where a callee's parameter `code` stands, for the length that it keeps
-LENT = {m: D(2) for m in MEMBERS + ['effect', 'import-item', 'targets', 'patterns', 'registers', 'params', 'simple', 'after']}
-LENT.update({m: D(1) for m in ('push-load-const', 'push-lit', 'push-import', 'break-loop', 'continue-loop', 'iterate', 'load', 'store', 'push-safe-jump')})
+# where a callee's parameters `code` and `consts` stand, for the lengths that it keeps
+LENT = {m: (D(2), D(3)) for m in MEMBERS + ['effect', 'import-item', 'targets', 'patterns']}
+LENT.update({m: (D(1), D(2)) for m in ('push-load-const', 'push-null', 'push-lit', 'push-import', 'break-loop', 'continue-loop', 'iterate', 'end-for')})
+LENT.update({m: (D(1), None) for m in ('load', 'store', 'push-safe-jump')})
+LENT.update({m: (D(2), None) for m in ('registers', 'params', 'simple', 'after')})
+LENT.update({m: (D(0), None) for m in ('copies', 'keep-error')})
 def alias(m): return m + '′' if m == 'and' else m
 def base(t): return re.sub(r'\d+$', '', t)
-def lent(t):
+def lent(t, j):
     b = base(t)
     if b.endswith('-arg'): return None
-    if b in LENT: return LENT[b]
-    return D(0) if b.startswith('push-') or b in ('copies', 'keep-error', 'end-for') else None
+    if b in LENT: return LENT[b][j]
+    if b.startswith('push-'): return D(0) if j == 0 else None
+    return None
 reads = dict(re.findall(r'^    use (\S+) as ([\w-]+-reads)$', text, re.M)); reads = {v: k for k, v in reads.items()}
 
 def ladder(need_path, answer):
@@ -81,16 +85,22 @@ def member(m, conf):
             T = 'InvT' if k == 'Inv' else 'MeasureT'
             body += [f'abbrev {k}-loop : lts.{T}-loop', f'{sigl} = {v}', '']
     body.append('module _ (t : ℕ) where')
+    run, which = [], {}
+    for n in order:
+        if n.startswith('same-length'): run.append(n)
+        else:
+            for j, s in enumerate(run): which[s] = j
+            run = []
     todo = []
     for n in order:
         p = path(n); kap = ' κs' if re.sub(r'-\d+$', '', n).endswith('requires') else ''
         unf = None
         if n in conf: a = conf[n]
         elif n.startswith('same-length'):
-            ps = []
+            j = which[n]; ps = []
             for k, th in p:
-                if th and lent(th): ps.append(f'@{th} .kept{lent(th)}')
-                if th == 'loop': ps.append('@loop .inv .long')
+                if th and lent(th, j): ps.append(f'@{th} .kept{lent(th, j)}')
+                if th == 'loop': ps.append(f'@loop .inv .sizes .{j}')
             a = ' ∙ '.join(ps) or 'refl'
         else:
             b = re.sub(r'-requires(-\d+)?$', '', n)
@@ -126,11 +136,9 @@ b = ['-- The measures of the visitors, and what each is given at the measure t a
 for m in MEMBERS: b += [f'use Rattle·visit·proofs.proofs.{m}.Reads as {alias(m)}', f'use Rattle·visit·proofs.proofs.{m}.Kinds as {m}-kinds']
 for m in MEMBERS:
     lv, rank, idx = a.RANK[m]; r = 'a' + ' .1' * idx + ' .0'
-    # how many references it is lent; its record is the parameter behind them
-    n = min(idx, 5)
-    b += ['', f'abbrev pub μ-{m} : Measures {n} {m}-kinds.ps ℕ', f'μ-{m} κs a = {lv} (size (a .0 .now)) ({r}) {rank}',
-          '', f'abbrev pub {m}-at : ℕ → In {n} {m}-kinds.ps', f'{m}-at t = and {n} {m}-kinds.ps (is {n} {m}-kinds.ps μ-{m} t) {alias(m)}.Pre',
-          '', f'abbrev pub {m}-below : ℕ → In {n} {m}-kinds.ps', f'{m}-below t = and {n} {m}-kinds.ps (falls {n} {m}-kinds.ps _<_ μ-{m} t) {alias(m)}.Pre']
+    b += ['', f'abbrev pub μ-{m} : Measures 5 {m}-kinds.ps ℕ', f'μ-{m} κs a = {lv} (size (a .0 .now)) ({r}) {rank}',
+          '', f'abbrev pub {m}-at : ℕ → In 5 {m}-kinds.ps', f'{m}-at t = and 5 {m}-kinds.ps (is 5 {m}-kinds.ps μ-{m} t) {alias(m)}.Pre',
+          '', f'abbrev pub {m}-below : ℕ → In 5 {m}-kinds.ps', f'{m}-below t = and 5 {m}-kinds.ps (falls 5 {m}-kinds.ps _<_ μ-{m} t) {alias(m)}.Pre']
 open(f'{DIR}/Proof/Base.antt', 'w').write('\n'.join(b) + '\n')
 p = ['-- The proof of the visitors\' cycle of calls: each visitor has a module of its own. Assumes nothing.', 'mod Base'] + [f'mod {m.capitalize()}' for m in MEMBERS]
 p += [f'use {BASE}.{{statement}}', f'use {BASE}.Tie.{{close}}', f'use {BASE}.Proof.Base.{{{", ".join("μ-" + m for m in MEMBERS)}}}']

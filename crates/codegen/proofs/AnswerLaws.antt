@@ -1,4 +1,4 @@
--- The answer, row by row, demand 3 of a listing without errors, and 256 constants a function of every listing. Assumes nothing.
+-- The answer, row by row, and demand 3 of a listing without errors. Assumes nothing.
 use mathlib.Core.Path.{◌≡◌, refl, sym, ap, subst, subst⁻¹, ◌∙◌}
 use mathlib.Core.Bool.{Bool, true, false}
 use mathlib.Core.List.{List, [], ◌∷◌}
@@ -30,8 +30,8 @@ use Rattle.codegen.specs.Space.{space_broken}
 use Rattle.codegen.specs.declared.call.Answer.{Answer}
 use Rattle.codegen.specs.declared.call.Answer.TheVariants.{Listing, Refused}
 use Rattle.codegen.specs.Walks.{stack_code, ran}
-use Rattle.codegen.specs.Call.{checked_of, past, answering, ran_of, answer_of, written_of, Written, Answered, Sound, Demanded, Loadable, number_in, valued, Promised}
-use Rattle.codegen.proofs.DemandLaws.{on_words, consts_few}
+use Rattle.codegen.specs.Call.{checked_of, past, answering, ran_of, answer_of, written_of, Written, Answered, Sound, Demanded, number_in, valued, Promised}
+use Rattle.codegen.proofs.DemandLaws.{on_words}
 use Rattle.codegen.proofs.ReadyLaws.{tables_kept}
 
 never : (why : Refusal) → Broke why ≡ Accepted → ⊥
@@ -162,28 +162,8 @@ module _ (symbols references functions members recs : List ℕ) (sound : Sound s
     unfolding outcome
     demanded a w = subst⁻¹ Leaves w.answer (by_flow (flow (ran t recs)) refl (run_uncut t recs)) w.written
 
--- ---- 256 constants a function
-
-module _ (t : Semantic) (recs : List ℕ) (o o' : Out) where
-  abbrev Loads : Answer → Type 0
-  Loads a = Written a t recs o o' → Loadable a o'.lines
-
-  listing_loads : (k f : ℕ) → Loads (Listing (side (ran t recs)).met k f)
-  unfolding written_of
-  listing_loads k f w = consts_few t recs o.markers o.constants o.lines o'.markers o'.constants o'.lines w.markers w.constants w.lines
-
-  each_loads : (f : Flow) → Loads (answering recs (side (ran t recs)) (ended t recs f (side (ran t recs))))
-  each_loads Go = listing_loads (length (side (ran t recs)).errors) (32 * size recs)
-  each_loads (Cut k a b) = listing_loads (length (side (ran t recs)).errors) (32 * size recs)
-  each_loads (Halted x r) = λ w. tt
-
-  pub loadable : (a : Answer) → Answered t recs a o o' → Loadable a o'.lines
-  unfolding outcome
-  loadable a w = subst⁻¹ Loads w.answer (each_loads (flow (ran t recs))) w.written
-
 -- the call for C and Rust, by another name of the answer
 pub promised : (a b : Answer) (t : Semantic) (recs : List ℕ) (n : ℕ) (values values' : List ℕ) (o o' : Out) → a ≡ b → n ≡ number_in a → values' ≡ valued a values
-    → Written a t recs o o' → Demanded a t recs o'.markers o'.constants o'.lines → Loadable a o'.lines → Promised b t recs n values values' o o'
-promised a b t recs n values values' o o' e p q w d l =
-    subst (λ (z : Answer). Promised z t recs n values values' o o') e
-    (record { number_is = p; values_are = q; written = w; demand3 = d; loadable = l })
+    → Written a t recs o o' → Demanded a t recs o'.markers o'.constants o'.lines → Promised b t recs n values values' o o'
+promised a b t recs n values values' o o' e p q w d =
+    subst (λ (z : Answer). Promised z t recs n values values' o o') e (record { number_is = p; values_are = q; written = w; demand3 = d })

@@ -21,7 +21,7 @@ use Rattle.rules.specs.contracts.Flow.{the_type as flow-type}
 use Rattle.rules.specs.declared.Flow.{Flow}
 use Rattle.rules.specs.declared.Flow.TheVariants.{Go, Cut, Refused as Halted}
 use Rattle.rules.specs.Run.{Side, State, flow, side, look}
-use Rattle.rules.specs.Out.{Out, ended, outcome}
+use Rattle.rules.specs.Out.{Out, out, ended, outcome}
 use Rattle.rules.proofs.Alone.{Runs}
 use Rattle.emit.specs.Words.{limit, ERRORS, FUNCTIONS, at, flow_in}
 use Rattle.emit.specs.Does.{noted_look}
@@ -29,7 +29,7 @@ use Rattle.codegen.specs.declared.call.Answer.{Answer}
 use Rattle.codegen.specs.declared.call.Answer.TheVariants.{Listing, Refused}
 use Rattle.codegen.specs.Walks.{ran, noted_run, Walked}
 use Rattle.codegen.specs.Listing.{met_of, stream_of, Ready}
-use Rattle.codegen.specs.Call.{answering, written_of, lists, Written, Answered, Sound, Roomy, Listable, Listed}
+use Rattle.codegen.specs.Call.{answering, ran_of, written_of, lists, Written, Answered, Sound, Roomy, Listable, Listed}
 use Rattle.codegen.proofs.NoteLaws.{noted_same}
 use Rattle.codegen.proofs.LayLaws.{note_over}
 use Rattle.codegen.proofs.SpaceLaws.{space_kept}

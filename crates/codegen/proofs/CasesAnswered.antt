@@ -1,8 +1,8 @@
 -- Document 01's worked cases A to J as the call answers them: a listing of one line each, with room enough; with a word less of markers, 2 at place 0.
 -- Assumes nothing.
-use mathlib.Core.Bool.{Bool, true, ◌&&◌}
+use mathlib.Core.Bool.{Bool, true, false, ◌&&◌}
 use mathlib.Core.List.{List, [], ◌∷◌}
-use Prim.Native.Nat.{ℕ, ◌*◌, ◌/◌, ◌-◌}
+use Prim.Native.Nat.{ℕ, ◌+◌, ◌*◌, ◌/◌, ◌-◌}
 use lib.ListN.{length}
 use lib.Dec.{T, eqb}
 use Rattle.tables.specs.Record.{size}
@@ -20,9 +20,8 @@ use Rattle.tables.specs.Semantic.{share_start}
 use Rattle.pool.specs.Value.{same_list_lem, find, seen, intern}
 use Rattle.pool.specs.Names.{index_of, with_symbol, with_symbols, names_upto, names, load, store}
 use Rattle.rules.specs.Kinds.{steps}
-use Rattle.rules.specs.Run.{emit, bring, bump, halt, begin, finish, outward, barred, kept, nested, exec, stream, run}
-use Rattle.rules.specs.Constants.{consts}
-use Rattle.rules.specs.Out.{marker_words, const_words, plain_names, upvalue_words, error_words, loop_depth, stream_of_lem, each_function, outcome}
+use Rattle.rules.specs.Run.{emit, bump, halt, begin, finish, outward, barred, kept, nested, exec, stream, run}
+use Rattle.rules.specs.Out.{consts, marker_words, const_words, plain_names, upvalue_words, error_words, loop_depth, stream_of_lem, each_function, outcome}
 use Rattle.rules.specs.Cases.{Case, cases}
 use Rattle.codegen.specs.Space.{scarce, space_broken}
 use Rattle.codegen.specs.declared.call.Answer.{Answer}
@@ -42,8 +41,5 @@ all_answered (c ∷ cs) =
     && (is_answer (called c (64 * size c.records - 1)) 2 (0 ∷ 0 ∷ 0 ∷ []) && all_answered cs)
 
 pub cases_answered : T (all_answered cases)
-unfolding refusing rows_of unfit lent_broken same_string equal_earlier string_bad symbol_bad reference_bad parent_bad own_start twice member_bad entries_broken right_detail
-    right_links fits right_children one named_by manner visited broken_from guarded first next grow forest share_start find seen intern index_of with_symbol with_symbols
-    names_upto names load store steps emit bring bump halt begin finish outward barred kept nested exec stream run consts marker_words const_words plain_names
-    upvalue_words error_words loop_depth stream_of_lem each_function outcome scarce space_broken checked_of answer_of
+unfolding refusing rows_of unfit lent_broken same_string equal_earlier string_bad symbol_bad reference_bad parent_bad own_start twice member_bad entries_broken right_detail right_links fits right_children one named_by manner visited broken_from guarded first next grow forest share_start find seen intern index_of with_symbol with_symbols names_upto names load store steps emit bump halt begin finish outward barred kept nested exec stream run consts marker_words const_words plain_names upvalue_words error_words loop_depth stream_of_lem each_function outcome scarce space_broken checked_of answer_of
 cases_answered = tt

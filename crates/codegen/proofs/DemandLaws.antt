@@ -1,5 +1,5 @@
--- Demand 3 on the words that are left: a function's own among them are its stream's words; and its line counts at most 256 constants. Assumes nothing.
-use mathlib.Core.Path.{◌≡◌, refl, sym, ap, ap₂, subst⁻¹, ◌∙◌}
+-- Demand 3 on the words that are left: a function's own among them are its stream's words. Assumes nothing.
+use mathlib.Core.Path.{◌≡◌, refl, sym, ap, ap₂, subst, subst⁻¹, ◌∙◌}
 use mathlib.Core.Bool.{Bool, true, false}
 use mathlib.Core.List.{List, [], ◌++◌, append_assoc, append-nil}
 use Prim.Native.Nat.{ℕ, zero, suc, ◌+◌, ◌*◌, ◌≤◌, ◌<◌}
@@ -10,11 +10,9 @@ use lib.Dec.{ltb}
 use borrow.Author.Tests.{ltb-true, ltb-false}
 use Rattle.pool.specs.Names.{Semantic}
 use Rattle.pool.specs.NameWords.{over}
-use Rattle.rules.specs.Run.{Stream, State, side, look}
-use Rattle.rules.specs.Constants.{consts}
-use Rattle.rules.specs.Out.{line_words, each_function}
+use Rattle.rules.specs.Run.{Stream, State, side}
+use Rattle.rules.specs.Out.{consts, line_words, each_function}
 use Rattle.rules.specs.Demand.{Demand3, Labels, Loops, Constants, Indices}
-use Rattle.rules.proofs.FewConstants.{met_few}
 use Rattle.codegen.specs.Walks.{stack_code, ran}
 use Rattle.codegen.specs.Listing.{markers_of, constants_of, stream_of, met_of, first_of}
 use Rattle.codegen.specs.Demand.{counted_at, before, own_words, Demand3On}
@@ -110,10 +108,6 @@ module _ (t : Semantic) (recs : List ℕ) where
 
     consts_counted : (f : ℕ) → f < met_of A → counted_at 2 lines' f ≡ length (consts (stream_of A f).marks)
     consts_counted f h = line_is f h 2 (omega arith)
-
-    -- "The meter's loader holds 256 constants a function, Null included."
-    pub consts_few : (f : ℕ) → f < met_of A → counted_at 2 lines' f ≤ 256
-    consts_few f h = omega (arith, consts_counted f h, met_few stack_code (look t) recs f h)
 
     markers_before : (f : ℕ) → f ≤ met_of A → before 2 0 lines' f ≡ length (first_of A markers_of f)
     unfolding before each_function

@@ -10,14 +10,14 @@ use borrow.Author.Tests.{lt-ltb}
 use Rattle.pool.specs.Value.{Const, seen, intern, kind_word, low_word, high_word}
 use Rattle.pool.specs.Consts.{room, put3, laid}
 use Rattle.pool.specs.NameWords.{over}
-use Rattle.pool.proofs.ConstsLaws.{find_seen, find_later, seen_later, seen_intern, intern_length}
+use Rattle.pool.proofs.ConstsLaws.{find_seen, find_later, seen_later, seen_intern}
 use Rattle.rules.specs.Marker.{Op, Label, To, Back, Leave, Load, Do, Mark, mark}
 use Rattle.rules.specs.Run.{Error, error}
-use Rattle.rules.specs.Constants.{consts, brought}
-use Rattle.rules.specs.Out.{code_word, operand_word, marker_words, const_words, error_words}
+use Rattle.rules.specs.Out.{consts, brought, code_word, operand_word, marker_words, const_words, error_words}
 use Rattle.emit.specs.Words.{limit, cap}
 use Rattle.emit.specs.Sinks.{put2}
 use Rattle.emit.specs.Rep.{lay, note}
+use Rattle.emit.proofs.ConstLaws.{table_short}
 use Rattle.codegen.specs.Listing.{Small, AllSmall}
 use Rattle.codegen.proofs.OverLaws.{over_length, over_sets}
 
@@ -152,17 +152,6 @@ markers_length cs (mark r x ∷ ms) =
     let c = code_word x in
     let o = operand_word cs x in
     ap length (markers_before cs ms (c ∷ o ∷ [])) ∙ length-append (marker_words cs ms []) (c ∷ o ∷ []) ∙ omega (arith, markers_length cs ms)
-
--- markers name no more constants than they are, but for Null
-table_short : (m : List Mark) → length (consts m) ≤ suc (length m)
-unfolding consts
-table_short [] = omega arith
-table_short (mark r (Label l) ∷ m) = omega (arith, table_short m)
-table_short (mark r (To h l) ∷ m) = omega (arith, table_short m)
-table_short (mark r (Back l) ∷ m) = omega (arith, table_short m)
-table_short (mark r (Leave x l) ∷ m) = omega (arith, table_short m)
-table_short (mark r (Load c v) ∷ m) = omega (arith, table_short m, (intern_length (consts m) (brought r v)).1)
-table_short (mark r (Do c n) ∷ m) = omega (arith, table_short m)
 
 -- an operand that a word holds is written as it is
 operand_fits : (r : ℕ) (x : Op) (ms : List Mark) → Small x → length ms < limit → cap (operand_word (consts (mark r x ∷ ms)) x) ≡ operand_word

@@ -8,17 +8,18 @@ use native.Mathlib.Omega.{arith}
 use lib.ListN.{get_or, take as front}
 use lib.Dec.{T, leb, ltb, eqb, leb→le}
 use borrow.Author.Tests.{ltb-true, eqb-true, eqb-false}
-use Rattle.tables.specs.Record.{Words, is_do, is_function}
+use Rattle.tables.specs.Record.{Words, words, is_do, is_function}
 use Rattle.tables.specs.Forest.{Forest, none, tree, Nodes, bare, own_tree, count, children, first, root}
+use Rattle.tables.specs.declared.refusal.RunRule.{RunRule}
 use Rattle.tables.specs.declared.refusal.RunRule.TheVariants.{Reference, Load, Store}
 use Rattle.tables.proofs.ForestLaws.{Each, each, and_l, and_r, Genuine, genuine}
-use Rattle.pool.specs.Value.{Value, function}
+use Rattle.pool.specs.Value.{function}
 use Rattle.pool.specs.Names.{Access, local, global, upvalue, missing}
 use Rattle.pool.specs.Notes.{load_of, store_of, load_noted, store_noted}
 use Rattle.rules.specs.declared.Flow.{Flow}
 use Rattle.rules.specs.declared.Flow.TheVariants.{Go, Cut, Refused}
 use Rattle.rules.specs.declared.StackCode.{StackCode}
-use Rattle.rules.specs.Marker.{Way, Break, Continue, ConstOp, LoadConst, Call, Op, Label, To, Back, Leave, Load as Loads, Do, Mark, mark}
+use Rattle.rules.specs.Marker.{Way, Break, Continue, LoadConst, Call, Op, Label, To, Back, Leave, Load as Loads, Do, Mark, mark}
 use Rattle.rules.specs.Step.{
   Role,
   Keep,
@@ -55,7 +56,6 @@ use Rattle.rules.specs.Run.{
   labels,
   loops,
   emit,
-  bring,
   bump,
   halt,
   begin,
@@ -64,6 +64,9 @@ use Rattle.rules.specs.Run.{
   way_out,
   outward,
   barred,
+  Spot,
+  here,
+  nowhere,
   spot_at,
   number_of,
   Lookup,
@@ -81,7 +84,6 @@ use Rattle.rules.specs.Run.{
   anew,
   alone,
 }
-use Rattle.rules.proofs.Bring.{bring_cases}
 use Rattle.rules.proofs.Visits.{visit_of}
 use Rattle.rules.proofs.StepsOk.{function_only}
 use Rattle.rules.proofs.Tame.{no_name, no_function, held_by, tame, tally, Modest}
@@ -189,9 +191,6 @@ unfolding halt
 halt_keeps f (st m l ls os Go e) h = record { holds = record { markers = h.markers; opens = h.opens }; more = omega arith }
 halt_keeps f (st m l ls os (Cut k a d) e) h = stay _ h
 halt_keeps f (st m l ls os (Refused y q) e) h = stay _ h
-
-bring_keeps : (r : ℕ) (c : ConstOp) (v : Value) → Keeps (bring r c v)
-bring_keeps r c v s h = bring_cases (λ s'. After s s') r c v s (halt_keeps _ s h) (emit_keeps r (Loads c v) s tt h)
 
 begin_keeps : (i r c b : ℕ) (s : State) → c ≤ labels s → b ≤ labels s → Holds s → After s (begin (front i) (loop r c b) s)
 unfolding begin
@@ -303,7 +302,7 @@ module _ (sc : StackCode) (ns : List ℕ) (i : ℕ) where
     exec_after (push_op c x ∷ is) q env s b h =
         let p = and_r (no_name c) _ q in
         onward is env s _ (emit_keeps r (Do c x) s (operand_few x (and_l (held_by limit x) _ p)) h) b (exec_after is (and_r (held_by limit x) _ p) env _)
-    exec_after (push_const c p v ∷ is) q env s b h = onward is env s _ (bring_keeps _ c v s h) b (exec_after is (and_r (no_function v) _ q) env _)
+    exec_after (push_const c p v ∷ is) q env s b h = onward is env s _ (emit_keeps _ (Loads c v) s tt h) b (exec_after is (and_r (no_function v) _ q) env _)
     exec_after (get_label ∷ is) q env s b h =
         let a = bump_keeps s h in
         then_after s (bump s) _ a
@@ -335,8 +334,8 @@ module _ (sc : StackCode) (ns : List ℕ) (i : ℕ) where
     unfolding exec nested
     function_keeps ks s h = go (is_do w)
       where
-        a : After s (bring r LoadConst (function w.p) s)
-        a = bring_keeps r LoadConst (function w.p) s h
+        a : After s (emit (mark r (Loads LoadConst (function w.p))) s)
+        a = emit_keeps r (Loads LoadConst (function w.p)) s tt h
 
         go : (b : Bool) → After s
             (exec L o fn r w k vs body (cond b (inner ∷ load (function w.p) ∷ push_op Call 0 ∷ []) (inner ∷ load (function w.p) ∷ [])) [] s)

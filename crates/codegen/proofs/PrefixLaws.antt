@@ -14,8 +14,7 @@ use Rattle.pool.proofs.EntryLaws.{words_length, words_append}
 use Rattle.pool.proofs.NameUpto.{entries_snoc, start_more, entries_start}
 use Rattle.pool.proofs.NamesLaws.{names_next, names_members}
 use Rattle.rules.specs.Run.{Stream, side, look}
-use Rattle.rules.specs.Constants.{consts}
-use Rattle.rules.specs.Out.{plain_names, upvalue_words, name_words, line_words, loop_depth, each_function, out}
+use Rattle.rules.specs.Out.{plain_names, upvalue_words, name_words, line_words, consts, loop_depth, each_function, out}
 use Rattle.codegen.specs.Call.{Sound, Roomy, lists}
 use Rattle.codegen.specs.Names.{name_count}
 use Rattle.codegen.specs.Walks.{ran}

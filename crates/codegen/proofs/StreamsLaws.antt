@@ -3,40 +3,22 @@ use mathlib.Core.Path.{◌≡◌, refl, sym, ap, ap₂, ◌∙◌}
 use mathlib.Core.List.{List, ◌++◌}
 use Prim.Native.Nat.{ℕ, zero, suc, ◌+◌, ◌*◌, ◌≤◌, ◌<◌}
 use native.Mathlib.Omega.{arith}
-use lib.ListN.{length, take, drop, length-append}
+use lib.ListN.{length, length-append}
 use Rattle.pool.specs.NameWords.{over}
 use Rattle.rules.specs.Run.{Stream, State}
 use Rattle.rules.specs.Out.{each_function}
-use Rattle.codegen.specs.Listing.{markers_of, constants_of, line_of, stream_of, met_of, first_of, Spaced, Streams}
+use Rattle.codegen.specs.declared.streams.Reached.{Reached}
+use Rattle.codegen.specs.Listing.{markers_of, constants_of, line_of, stream_of, met_of, over_at, first_of, Turning, Turned, Spaced, Streams}
 use Rattle.codegen.proofs.OverLaws.{over_length, over_behind}
 
--- function n was met, and its words have room from the places m and k on
-pub record Turning (A : State) (markers constants lines : List ℕ) (n m k : ℕ) : Type 0 where
-  pub met : n < met_of A
-  pub markers_fit : m + length (markers_of (stream_of A n)) ≤ length markers
-  pub constants_fit : k + length (constants_of (stream_of A n)) ≤ length constants
-  pub lines_fit : n * 7 + 7 ≤ length lines
-
--- some words from a place on are laid over, the others "stay as they were"
-abbrev pub over_at : ℕ → List ℕ → List ℕ → List ℕ
-over_at i xs ws = take i ws ++ over xs (drop i ws)
-
--- function n is written, and the next one's places are known
-pub record Turned (A : State) (recs spans : List ℕ) (n m k : ℕ) (markers markers' constants constants' lines lines' : List ℕ) (m' k' : ℕ) : Type 0 where
-  pub markers_laid : markers' ≡ over_at m (markers_of (stream_of A n)) markers
-  pub constants_laid : constants' ≡ over_at k (constants_of (stream_of A n)) constants
-  pub lines_laid : lines' ≡ over_at (n * 7) (line_of recs spans (stream_of A n)) lines
-  pub next_marker : m' ≡ m + length (markers_of (stream_of A n))
-  pub next_constant : k' ≡ k + length (constants_of (stream_of A n))
-
--- n functions are written, up to the places m and k
-pub record Going (A : State) (recs spans markers₀ constants₀ lines₀ markers constants lines : List ℕ) (n m k : ℕ) : Type 0 where
+-- n functions are written, up to these places
+pub record Going (A : State) (recs spans markers₀ constants₀ lines₀ markers constants lines : List ℕ) (n : ℕ) (at : Reached) : Type 0 where
   pub few : n ≤ met_of A
   pub markers_laid : markers ≡ over (first_of A markers_of n) markers₀
   pub constants_laid : constants ≡ over (first_of A constants_of n) constants₀
   pub lines_laid : lines ≡ over (first_of A (line_of recs spans) n) lines₀
-  pub markers_reached : m ≡ length (first_of A markers_of n)
-  pub constants_reached : k ≡ length (first_of A constants_of n)
+  pub markers_reached : at.markers ≡ length (first_of A markers_of n)
+  pub constants_reached : at.constants ≡ length (first_of A constants_of n)
 
 module _ (A : State) where
   pub more_length : (f : Stream → List ℕ) (n : ℕ) → length (first_of A f (suc n)) ≡ length (first_of A f n) + length (f (stream_of A n))
@@ -67,7 +49,7 @@ module _ (A : State) where
       ∙ ap (λ (j : ℕ). over (first_of A f j) ws₀) z
 
   module _ (recs spans markers₀ constants₀ lines₀ : List ℕ) where
-    pub going_start : Going A recs spans markers₀ constants₀ lines₀ markers₀ constants₀ lines₀ 0 0 0
+    pub going_start : Going A recs spans markers₀ constants₀ lines₀ markers₀ constants₀ lines₀ 0 (record { markers = 0; constants = 0 })
     unfolding each_function
     going_start = record {
       few = omega arith;
@@ -81,8 +63,8 @@ module _ (A : State) where
     lines_length : (n : ℕ) → length (first_of A (line_of recs spans) n) ≡ n * 7
     lines_length n = all_length (line_of recs spans) 7 (λ x. refl) n
 
-    module _ (s : Spaced A markers₀ constants₀ lines₀) (markers constants lines : List ℕ) (n m k : ℕ)
-        (g : Going A recs spans markers₀ constants₀ lines₀ markers constants lines n m k) where
+    module _ (s : Spaced A markers₀ constants₀ lines₀) (markers constants lines : List ℕ) (n : ℕ) (at : Reached)
+        (g : Going A recs spans markers₀ constants₀ lines₀ markers constants lines n at) where
       pub markers_kept : length markers ≡ length markers₀
       markers_kept = ap length g.markers_laid ∙ over_length (first_of A markers_of n) markers₀ (s.markers_fit n g.few)
 
@@ -95,7 +77,7 @@ module _ (A : State) where
           let f = g.few in
           ap length g.lines_laid ∙ over_length (first_of A (line_of recs spans) n) lines₀ (omega (arith, lines_length n))
 
-      pub going_turn : n < met_of A → Turning A markers constants lines n m k
+      pub going_turn : n < met_of A → Turning A markers constants lines n at
       going_turn lt =
           let h1 = s.markers_fit (suc n) (omega arith) in
           let h2 = s.constants_fit (suc n) (omega arith) in
@@ -110,16 +92,16 @@ module _ (A : State) where
             lines_fit = omega arith;
           }
 
-    pub going_next : (markers markers' constants constants' lines lines' : List ℕ) (n m k m' k' : ℕ) → n < met_of A
-        → Going A recs spans markers₀ constants₀ lines₀ markers constants lines n m k
-        → Turned A recs spans n m k markers markers' constants constants' lines lines' m' k'
-        → Going A recs spans markers₀ constants₀ lines₀ markers' constants' lines' (n + 1) m' k'
-    going_next markers markers' constants constants' lines lines' n m k m' k' lt g h =
+    pub going_next : (markers markers' constants constants' lines lines' : List ℕ) (n : ℕ) (at at' : Reached) → n < met_of A
+        → Going A recs spans markers₀ constants₀ lines₀ markers constants lines n at
+        → Turned A recs spans n at markers markers' constants constants' lines lines' at'
+        → Going A recs spans markers₀ constants₀ lines₀ markers' constants' lines' (n + 1) at'
+    going_next markers markers' constants constants' lines lines' n at at' lt g h =
         let z : suc n ≡ n + 1 = omega arith in
         record {
           few = omega arith;
-          markers_laid = more_over markers_of n m markers₀ markers markers' g.markers_laid g.markers_reached h.markers_laid;
-          constants_laid = more_over constants_of n k constants₀ constants constants' g.constants_laid g.constants_reached h.constants_laid;
+          markers_laid = more_over markers_of n at.markers markers₀ markers markers' g.markers_laid g.markers_reached h.markers_laid;
+          constants_laid = more_over constants_of n at.constants constants₀ constants constants' g.constants_laid g.constants_reached h.constants_laid;
           lines_laid = more_over (line_of recs spans) n (n * 7) lines₀ lines lines' g.lines_laid (sym (lines_length n)) h.lines_laid;
           markers_reached = h.next_marker ∙ ap (λ (i : ℕ). i + length (markers_of (stream_of A n))) g.markers_reached ∙ sym (more_length markers_of n)
               ∙ ap (λ (j : ℕ). length (first_of A markers_of j)) z;
@@ -127,9 +109,9 @@ module _ (A : State) where
               ∙ sym (more_length constants_of n) ∙ ap (λ (j : ℕ). length (first_of A constants_of j)) z;
         }
 
-    pub going_end : (markers constants lines : List ℕ) (n m k : ℕ) → met_of A ≤ n
-        → Going A recs spans markers₀ constants₀ lines₀ markers constants lines n m k → Streams A recs spans markers₀ markers constants₀ constants lines₀ lines
-    going_end markers constants lines n m k ge g =
+    pub going_end : (markers constants lines : List ℕ) (n : ℕ) (at : Reached) → met_of A ≤ n
+        → Going A recs spans markers₀ constants₀ lines₀ markers constants lines n at → Streams A recs spans markers₀ markers constants₀ constants lines₀ lines
+    going_end markers constants lines n at ge g =
         let z : n ≡ met_of A = (let h = g.few in omega arith) in
         record {
           markers_laid = g.markers_laid ∙ ap (λ (j : ℕ). over (first_of A markers_of j) markers₀) z;

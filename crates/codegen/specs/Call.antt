@@ -1,5 +1,5 @@
 -- The call: what it answers and what it writes. Definitions only.
-use Rattle.std.specs.Prelude.{◌≡◌, cond, List, [], ◌∷◌, ℕ, zero, suc, ◌*◌, ◌≤◌, ◌<◌, length, take, ltb}
+use Rattle.std.specs.Prelude.{◌≡◌, Bool, true, false, cond, List, [], ◌∷◌, ℕ, zero, suc, ◌*◌, ◌≤◌, ◌<◌, length, take, ltb}
 use Rattle.tables.specs.declared.refusal.Broken.TheVariants.{Nowhere}
 use Rattle.tables.specs.declared.refusal.Refusal.TheVariants.{Table, Space, Run}
 use Rattle.tables.specs.declared.refusal.Checked.{Checked}
@@ -16,7 +16,7 @@ use Rattle.rules.specs.Out.{Out, out, Outcome, listed, refused, outcome}
 use Rattle.emit.specs.Words.{limit}
 use Rattle.emit.specs.Rep.{note}
 use Rattle.codegen.specs.Walks.{stack_code, ran}
-use Rattle.codegen.specs.Demand.{counted_at, Demand3On}
+use Rattle.codegen.specs.Demand.{Demand3On}
 use Rattle.codegen.specs.Space.{space_broken}
 use Rattle.codegen.specs.Names.{name_count}
 use Rattle.codegen.specs.Listing.{met_of, Spaced, Streams}
@@ -67,12 +67,6 @@ abbrev pub Demanded : Answer → Semantic → (recs markers constants lines : Li
 Demanded (Listing n zero f) t recs markers constants lines = Demand3On t recs markers constants lines n
 Demanded (Listing n (suc e) f) t recs markers constants lines = Unit {0}
 Demanded (Refused x) t recs markers constants lines = Unit {0}
-
--- document 02, job 2: "The meter's loader holds 256 constants a function, Null included": of a listing, with errors or without, each function's line counts no
--- more, so that a constant's index is one byte
-abbrev pub Loadable : Answer → List ℕ → Type 0
-Loadable (Listing n e f) lines = (g : ℕ) → g < n → counted_at 2 lines g ≤ 256
-Loadable (Refused x) lines = Unit {0}
 
 -- the five outputs, as they are lent
 abbrev pub lists : (markers constants names errors lines : List ℕ) → Out
@@ -139,4 +133,3 @@ pub record Promised (a : Answer) (t : Semantic) (recs : List ℕ) (number : ℕ)
   pub values_are : values' ≡ valued a values
   pub written : Written a t recs o o'
   pub demand3 : Demanded a t recs o'.markers o'.constants o'.lines
-  pub loadable : Loadable a o'.lines

@@ -3,8 +3,7 @@ use Rattle.std.specs.Prelude.{◌≡◌, List, ℕ, zero, suc, ◌+◌, ◌*◌,
 use Rattle.tables.specs.Forest.{children, own_tree}
 use Rattle.pool.specs.Names.{Semantic}
 use Rattle.rules.specs.Run.{Stream, side}
-use Rattle.rules.specs.Constants.{consts}
-use Rattle.rules.specs.Out.{const_words, stream_of_lem}
+use Rattle.rules.specs.Out.{consts, const_words, stream_of_lem}
 use Rattle.rules.specs.Counts.{labels_counted}
 use Rattle.rules.specs.Demand.{Labels, Loops, Constants, Indices}
 use Rattle.codegen.specs.Walks.{stack_code, ran}

@@ -1,15 +1,15 @@
 -- What is written function by function, and what its writing rests on. Definitions only.
-use Rattle.std.specs.Prelude.{◌≡◌, true, List, [], ◌∷◌, ℕ, ◌*◌, ◌≤◌, ◌<◌, length}
+use Rattle.std.specs.Prelude.{◌≡◌, true, List, [], ◌∷◌, ◌++◌, ℕ, ◌+◌, ◌*◌, ◌≤◌, ◌<◌, length, take, drop}
 use Rattle.tables.specs.Record.{word, words, size, is_function}
 use Rattle.tables.specs.Forest.{own_tree, children}
 use Rattle.pool.specs.NameWords.{over, span_of}
 use Rattle.rules.specs.Marker.{Op, Label, To, Back, Leave, Load, Do, Mark, mark}
 use Rattle.rules.specs.Run.{Stream, State, marks as marksOf, labels as labelsOf, side as side_of}
-use Rattle.rules.specs.Constants.{consts}
-use Rattle.rules.specs.Out.{marker_words, const_words, loop_depth, stream_of_lem, each_function}
+use Rattle.rules.specs.Out.{consts, marker_words, const_words, loop_depth, stream_of_lem, each_function}
 use Rattle.emit.specs.Words.{limit}
 use Rattle.codegen.specs.Places.{Numbered}
 use Rattle.codegen.specs.Walks.{noted_run, single, Walkable}
+use Rattle.codegen.specs.declared.streams.Reached.{Reached}
 
 -- an operand that a word holds; a constant's index is one by the number of constants
 abbrev pub Small : Op → Type 0
@@ -64,6 +64,25 @@ pub record Ready (ns recs : List ℕ) : Type 0 where
   pub walkable : Walkable ns recs
   pub numbered : Numbered recs 256
   pub own : (n : ℕ) → n < met_of (noted_run ns recs) → Own ns recs n (stream_of (noted_run ns recs) n)
+
+-- function n was met, and its words have room from these places on
+pub record Turning (A : State) (markers constants lines : List ℕ) (n : ℕ) (at : Reached) : Type 0 where
+  pub met : n < met_of A
+  pub markers_fit : at.markers + length (markers_of (stream_of A n)) ≤ length markers
+  pub constants_fit : at.constants + length (constants_of (stream_of A n)) ≤ length constants
+  pub lines_fit : n * 7 + 7 ≤ length lines
+
+-- some words from a place on are laid over, the others "stay as they were"
+abbrev pub over_at : ℕ → List ℕ → List ℕ → List ℕ
+over_at i xs ws = take i ws ++ over xs (drop i ws)
+
+-- function n is written
+pub record Turned (A : State) (recs spans : List ℕ) (n : ℕ) (at : Reached) (markers markers' constants constants' lines lines' : List ℕ) (at' : Reached) : Type 0 where
+  pub markers_laid : markers' ≡ over_at at.markers (markers_of (stream_of A n)) markers
+  pub constants_laid : constants' ≡ over_at at.constants (constants_of (stream_of A n)) constants
+  pub lines_laid : lines' ≡ over_at (n * 7) (line_of recs spans (stream_of A n)) lines
+  pub next_marker : at'.markers ≡ at.markers + length (markers_of (stream_of A n))
+  pub next_constant : at'.constants ≡ at.constants + length (constants_of (stream_of A n))
 
 -- "1 line per function" and the others are room enough
 pub record Spaced (A : State) (markers constants lines : List ℕ) : Type 0 where

@@ -1,15 +1,13 @@
 -- The run by the notes and by the lent tables, and what a walk leaves in the frame and the lent words. Definitions only.
-use Rattle.std.specs.Prelude.{◌≡◌, false, List, ℕ, ◌≤◌, ◌<◌, length, take}
+use Rattle.std.specs.Prelude.{◌≡◌, false, List, ℕ, ◌≤◌, length, take}
 use Rattle.tables.specs.Record.{words}
 use Rattle.tables.specs.Forest.{children, root, levels}
-use Rattle.pool.specs.Consts.{laid}
 use Rattle.pool.specs.Names.{Semantic}
 use Rattle.rules.specs.declared.StackCode.{StackCode}
 use Rattle.rules.specs.declared.StackCode.TheVariants.{Code1}
-use Rattle.rules.specs.Constants.{consts as consts_of}
 use Rattle.rules.specs.Run.{State, marks as marksOf, labels as labelsOf, flow as flow_of, side as side_of, look, run, alone}
-use Rattle.emit.specs.Words.{limit, cap, MARKERS, LABELS, ERRORS, FUNCTIONS, KEPT, SIZE, at, flow_in, cap_flow}
-use Rattle.emit.specs.Rep.{lent, lay, Scoped}
+use Rattle.emit.specs.Words.{cap, MARKERS, LABELS, CONSTS, ERRORS, FUNCTIONS, KEPT, SIZE, at, flow_in, cap_flow}
+use Rattle.emit.specs.Rep.{outs, lent, Room, Wrote, Scoped}
 use Rattle.emit.specs.Does.{noted_look}
 
 -- the stack code that is generated; request 11 of document 02 makes it an argument of the call
@@ -43,11 +41,9 @@ pub record Walked (A : State) (frame : List ℕ) : Type 0 where
   pub errors : at frame ERRORS ≡ cap (length (side_of A).errors)
   pub met : at frame FUNCTIONS ≡ cap (side_of A).met
 
--- one function's stream: its markers and its n constants are laid where there is room, and counted
-pub record Streamed (A : State) (code constants code' constants' frame : List ℕ) (n : ℕ) : Type 0 where
+-- one function's stream: its markers and constants are laid where there is room, and counted
+pub record Streamed (recs : List ℕ) (A : State) (code consts code' consts' frame : List ℕ) : Type 0 where
   pub sized : Sized frame
-  pub wrote : length (marksOf A) < limit → code' ≡ lay code (marksOf A)
-  pub table : constants' ≡ laid constants 0 (consts_of (marksOf A))
-  pub entries : n ≡ length (consts_of (marksOf A))
+  pub wrote : Room (outs code consts) (marksOf A) → Wrote recs (outs code consts) (marksOf A) (outs code' consts') (at frame CONSTS)
   pub place : at frame MARKERS ≡ cap (length (marksOf A))
   pub labels : at frame LABELS ≡ cap (labelsOf A)

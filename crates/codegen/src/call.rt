@@ -4,10 +4,10 @@ ghost use Rattle.pool.specs.Names.{semantic};
 ghost use Rattle.pool.specs.NameWords.{over};
 ghost use Rattle.codegen.specs.Walks.{noted_run, Walked};
 ghost use Rattle.codegen.specs.Listing.{Ready};
-ghost use Rattle.codegen.specs.Call.{lists, Roomy, Listable, Listed, Sound, Answered, checked_of, answer_of, out_of, Demanded, Loadable};
+ghost use Rattle.codegen.specs.Call.{lists, Roomy, Listable, Listed, Sound, Answered, checked_of, answer_of, out_of, Demanded};
 
 use crate::copied::name_words;
-use crate::space::{Lengths, space};
+use crate::space::space;
 use crate::streams::streams;
 use crate::walks::{error_words, judge};
 use emit::frame;
@@ -54,7 +54,7 @@ fn listed(
 {
     let met = frame::functions(frame) as usize;
     let count = frame::errors(frame) as usize;
-    streams(recs, notes, spans, markers, constants, lines, frame);
+    streams(recs, notes, spans, markers, constants, lines, frame, met);
     name_words(entries, spans, named, met);
     error_words(recs, notes, errors, frame, count);
     Answer::Listing {
@@ -107,7 +107,7 @@ fn accepted(
     )
 }
 
-// Rows 1 to 9.
+// Rows 1 to 9; the outputs are given by their lengths in words.
 fn check(
     strings: &[u32],
     bytes: &[u8],
@@ -116,11 +116,14 @@ fn check(
     functions: &[u32],
     members: &[u32],
     records: &[u32],
-    out: Lengths,
+    markers: usize,
+    constants: usize,
+    named: usize,
+    errors: usize,
+    lines: usize,
 ) -> Checked
     ensures { result ≡ checked_of strings.now bytes.now symbols.now references.now
-        functions.now members.now records.now out.markers out.constants out.names out.errors
-        out.lines }
+        functions.now members.now records.now markers constants named errors lines }
 {
     if let Broken::At(i) = lent(
         strings, bytes, symbols, references, functions, members, records,
@@ -129,7 +132,16 @@ fn check(
     }
     let n = size(records);
     let f = functions.len() / 2;
-    if let Broken::At(i) = space(n, members.len(), f, out) {
+    if let Broken::At(i) = space(
+        n,
+        members.len(),
+        f,
+        markers,
+        constants,
+        named,
+        errors,
+        lines,
+    ) {
         return Checked::Refused(Refusal::Space(i));
     }
     rows(
@@ -172,17 +184,20 @@ pub fn gen_code(
         lines.old }
     ensures demand3 { Demanded result (semantic symbols.now references.now functions.now members.now)
         records.now markers.new constants.new lines.new }
-    ensures loadable { Loadable result lines.new }
 {
-    let out = Lengths {
-        markers: markers.len(),
-        constants: constants.len(),
-        names: names.len(),
-        errors: errors.len(),
-        lines: lines.len(),
-    };
     if let Checked::Refused(why) = check(
-        strings, bytes, symbols, references, functions, members, records, out,
+        strings,
+        bytes,
+        symbols,
+        references,
+        functions,
+        members,
+        records,
+        markers.len(),
+        constants.len(),
+        names.len(),
+        errors.len(),
+        lines.len(),
     ) {
         return Answer::Refused(why);
     }

@@ -13,33 +13,32 @@ fn scarce(each: usize, width: usize, n: usize, words: usize) -> bool
     words / width / each < n
 }
 
-// The lengths of the lent outputs, in words.
-#[derive(Drop)]
-pub(crate) struct Lengths {
-    pub markers: usize,
-    pub constants: usize,
-    pub names: usize,
-    pub errors: usize,
-    pub lines: usize,
-}
-
-// The first output, by its number, that is too small.
-pub(crate) fn space(records: usize, members: usize, functions: usize, lent: Lengths) -> Broken
-    ensures { result ≡ space_broken records members functions lent.markers lent.constants lent.names lent.errors lent.lines }
+// The first output, by its number, that is too small; the outputs are given by their lengths in words.
+pub(crate) fn space(
+    records: usize,
+    members: usize,
+    functions: usize,
+    markers: usize,
+    constants: usize,
+    names: usize,
+    errors: usize,
+    lines: usize,
+) -> Broken
+    ensures { result ≡ space_broken records members functions markers constants names errors lines }
 {
-    if scarce(32, 2, records, lent.markers) {
+    if scarce(32, 2, records, markers) {
         return Broken::At(0);
     }
-    if scarce(3, 3, records, lent.constants) {
+    if scarce(3, 3, records, constants) {
         return Broken::At(1);
     }
-    if scarce(1, 3, members, lent.names) {
+    if scarce(1, 3, members, names) {
         return Broken::At(2);
     }
-    if scarce(1, 3, records, lent.errors) {
+    if scarce(1, 3, records, errors) {
         return Broken::At(3);
     }
-    if scarce(1, 7, functions, lent.lines) {
+    if scarce(1, 7, functions, lines) {
         return Broken::At(4);
     }
     Broken::Nowhere

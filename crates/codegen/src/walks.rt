@@ -7,7 +7,7 @@ ghost use Rattle.codegen.specs.Walks.{stack_code, noted_run, single, Walkable, S
 
 use emit::frame;
 use emit::frame::Frame;
-use pool::consts::{Consts, const_count, start_consts, write_consts};
+use pool::consts::start_consts;
 use pool::notes::Notes;
 use rules::StackCode;
 use visit::{body, inner};
@@ -23,8 +23,9 @@ fn whole(recs: &[u32], notes: &Notes, errors: &mut [u32], frame: &mut Frame)
     ensures words { length (side (noted_run notes.now recs.now)).errors < limit
         → errors.new ≡ note errors.old (side (noted_run notes.now recs.now)).errors }
 {
+    let mut none = [0u32; 0];
     frame::begin(frame, STACK, true, 0);
-    inner(recs, notes, errors, frame, 0)
+    inner(recs, notes, errors, &mut none, frame, 0)
 }
 
 // The run judged: nothing is written.
@@ -56,24 +57,21 @@ pub(crate) fn error_words(
     }
 }
 
-// The function at record r by itself: its markers go to code, its constants to the table and from there to constants. Answers how many constants it has.
+// The function at record r by itself: its markers go to code, its constants to consts.
 pub(crate) fn stream(
     recs: &[u32],
     notes: &Notes,
     code: &mut [u32],
-    constants: &mut [u32],
-    table: &mut Consts,
+    consts: &mut [u32],
     frame: &mut Frame,
     r: usize,
-) -> u32
+)
     requires scoped { Scoped (lent recs.now notes.now) }
     requires sized { Sized frame.old }
-    ensures { Streamed (single notes.now recs.now r) code.old constants.old
-        code.new constants.new frame.new result }
+    ensures { Streamed recs.now (single notes.now recs.now r) code.old consts.old
+        code.new consts.new frame.new }
 {
-    start_consts(table);
+    start_consts(consts);
     frame::begin(frame, STACK, false, r);
-    body(recs, notes, code, table, frame, r);
-    write_consts(table, constants);
-    const_count(table)
+    body(recs, notes, code, consts, frame, r)
 }

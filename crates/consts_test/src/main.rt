@@ -1,7 +1,5 @@
-// Constants added one after the other; the answers and the words are those that document 01, readings 20 and 21 and job 2 of document 02 give (tools/consts_test.py).
-use opcode::index::FunctionId;
-use pool::consts::{Added, Consts, SIZE, add_const, const_count, start_consts, write_consts};
-use pool::value::{ConstValue, lit_value};
+// Constants added one after the other; the answers and the words are those that document 01 and readings 20 and 21 give.
+use pool::consts::Added;
 
 // Effects 3 and 13 and Handler 20 are one; 8 differs in the variadic only, 26 in a parameter, 30 in the name.
 const RECORDS: [u32; 280] = [
@@ -17,184 +15,108 @@ const RECORDS: [u32; 280] = [
     0, 0, 34, 2, 0, 0, 8, 0, 0, 0, 0,
 ];
 
-fn number(x: u32) {
-    io::print_decimal(1, x as u64);
-}
-
-// Adds a constant, and writes where it stands and how many there are.
-fn add(consts: &mut Consts, value: ConstValue) {
-    let records = RECORDS;
-    let answer = add_const(&records, consts, value);
-    match answer {
-        Added::At(id) => {
-            io::write_all(1, b"At ");
-            number(id.0);
-        }
-        Added::Full => {
-            io::write_all(1, b"Full");
-        }
-    }
+fn line(index: usize, count: usize) {
+    io::print_decimal(1, index as u64);
     io::write_all(1, b" ");
-    number(const_count(consts));
+    io::print_decimal(1, count as u64);
     io::write_all(1, b"\n");
 }
 
-fn lit(consts: &mut Consts, detail: u32, p: u32, q: u32) {
-    add(consts, lit_value(detail, p, q));
+// Adds a constant and writes where it stands; answers the new count.
+fn add(consts: &mut [u32], n: usize, kind: u32, low: u32, high: u32) -> usize {
+    let records = RECORDS;
+    let answer = pool::consts::add_const(&records, consts, n, kind, low, high);
+    match answer {
+        Added::At { index, count } => {
+            io::write_all(1, b"At ");
+            line(index, count);
+            count
+        }
+        Added::Full { index, count } => {
+            io::write_all(1, b"Full ");
+            line(index, count);
+            count
+        }
+    }
 }
 
-fn int(consts: &mut Consts, n: u32) {
-    add(consts, ConstValue::Int(n, 0));
+fn lit(consts: &mut [u32], n: usize, detail: u32, p: u32, q: u32) -> usize {
+    let w = pool::value::const_words(pool::value::lit_value(detail, p, q));
+    add(consts, n, w.kind, w.low, w.high)
 }
 
-fn string(consts: &mut Consts, s: u32) {
-    add(consts, ConstValue::Str(s));
+// Null, Bool with other unused words, Int beside a length, floats by their bits, Str beside Bytes and a member's name.
+fn literals(consts: &mut [u32], start: usize) -> usize {
+    let mut n = start;
+    n = lit(consts, n, 0, 5, 0);
+    n = lit(consts, n, 1, 1, 5);
+    n = lit(consts, n, 1, 1, 6);
+    n = lit(consts, n, 1, 0, 0);
+    n = lit(consts, n, 2, 3, 0);
+    n = add(consts, n, 2, 3, 0);
+    n = lit(consts, n, 2, 3, 1);
+    n
 }
 
-fn function(consts: &mut Consts, f: u32) {
-    add(consts, ConstValue::Function(FunctionId(f)));
+fn floats(consts: &mut [u32], start: usize) -> usize {
+    let mut n = start;
+    n = lit(consts, n, 3, 0, 0);
+    n = lit(consts, n, 3, 0, 2147483648);
+    n = lit(consts, n, 3, 0, 2146959360);
+    n = lit(consts, n, 3, 0, 2146959360);
+    n
 }
 
-fn effect(consts: &mut Consts, r: u32) {
-    add(consts, ConstValue::Effect(r));
+fn others(consts: &mut [u32], start: usize) -> usize {
+    let mut n = start;
+    n = lit(consts, n, 4, 4, 9);
+    n = lit(consts, n, 5, 4, 9);
+    n = add(consts, n, 4, 4, 0);
+    n = add(consts, n, 6, 4, 0);
+    n = add(consts, n, 8, 0, 0);
+    n
 }
 
-// Null, Bool with other unused words, Int beside a length.
-fn literals(consts: &mut Consts) {
-    lit(consts, 0, 5, 0);
-    lit(consts, 1, 1, 5);
-    lit(consts, 1, 1, 6);
-    lit(consts, 1, 0, 0);
-    lit(consts, 2, 3, 0);
-    int(consts, 3);
-    lit(consts, 2, 3, 1);
-}
-
-// Floats by their bits.
-fn floats(consts: &mut Consts) {
-    lit(consts, 3, 0, 0);
-    lit(consts, 3, 0, 2147483648);
-    lit(consts, 3, 0, 2146959360);
-    lit(consts, 3, 0, 2146959360);
-}
-
-// Str beside Bytes and a member's name, a function's number, Yield.
-fn others(consts: &mut Consts) {
-    lit(consts, 4, 4, 9);
-    lit(consts, 5, 4, 9);
-    string(consts, 4);
-    function(consts, 4);
-    add(consts, ConstValue::Yield);
-}
-
-fn effects(consts: &mut Consts) {
-    effect(consts, 3);
-    effect(consts, 8);
-    effect(consts, 13);
-    effect(consts, 20);
-    effect(consts, 26);
-    effect(consts, 30);
+fn effects(consts: &mut [u32], start: usize) -> usize {
+    let mut n = start;
+    n = add(consts, n, 7, 3, 0);
+    n = add(consts, n, 7, 8, 0);
+    n = add(consts, n, 7, 13, 0);
+    n = add(consts, n, 7, 20, 0);
+    n = add(consts, n, 7, 26, 0);
+    n = add(consts, n, 7, 30, 0);
+    n
 }
 
 fn word(x: u32) {
-    number(x);
-    io::write_all(1, b" ");
-}
-
-fn part(out: &[u32; 771], from: usize, end: usize) {
-    let mut i = from;
-    while i < end {
-        if i < out.len() {
-            word(out[i]);
-        }
-        i += 1;
-    }
-}
-
-fn lay(consts: &Consts, out: &mut [u32], lent: usize) {
-    if lent <= out.len() {
-        write_consts(consts, &mut out[..lent]);
-    }
-}
-
-// A part of the words, where so many of 771 are lent.
-fn words(consts: &Consts, lent: usize, from: usize, end: usize) {
-    let mut out = [77u32; 771];
-    lay(consts, &mut out, lent);
-    part(&out, from, end);
+    io::print_decimal(1, x as u64);
     io::write_all(1, b"\n");
 }
 
-// Seventeen entries; words past the lent ones and past the written ones stay, and a rest that makes no whole entry.
-fn few(consts: &mut Consts) {
-    start_consts(consts);
-    literals(consts);
-    floats(consts);
-    others(consts);
-    effects(consts);
-    lit(consts, 2, 9, 0);
-    lit(consts, 2, 3, 1);
-    words(consts, 54, 0, 54);
-    words(consts, 50, 0, 54);
-    words(consts, 0, 0, 3);
-}
-
-// Constants of one chain, which the hash makes of them: each is found again, and others of the chain are others.
-fn chain(consts: &mut Consts) {
-    int(consts, 21);
-    string(consts, 151);
-    effect(consts, 26);
-    lit(consts, 3, 0, 1078280192);
-    int(consts, 326);
-    effect(consts, 3);
-    function(consts, 281);
-    lit(consts, 5, 252, 0);
-    effect(consts, 8);
-    lit(consts, 3, 0, 1080889344);
-    string(consts, 456);
-    int(consts, 398);
-}
-
-fn chains(consts: &mut Consts) {
-    start_consts(consts);
-    chain(consts);
-    chain(consts);
-    effect(consts, 20);
-    int(consts, 151);
-    string(consts, 21);
-    int(consts, 703);
-    int(consts, 21);
-    words(consts, 771, 0, 51);
-}
-
-// With Null 256 entries.
-fn many(consts: &mut Consts) {
-    start_consts(consts);
-    let mut i: u32 = 1;
-    while i < 256 {
-        int(consts, i * 1000);
+fn words(consts: &[u32; 51]) {
+    let mut i: usize = 0;
+    while i < consts.len() {
+        word(consts[i]);
         i += 1;
     }
 }
 
-// A new value finds no place, and what is there is found.
-fn full(consts: &mut Consts) {
-    many(consts);
-    int(consts, 256000);
-    int(consts, 17000);
-    lit(consts, 0, 0, 0);
-    string(consts, 17000);
-    effect(consts, 3);
-    function(consts, 1);
-    int(consts, 255000);
-    int(consts, 1000);
-    words(consts, 771, 750, 771);
-    words(consts, 767, 750, 771);
+// The last two find no room for a new value and an old one in the full table.
+fn run(consts: &mut [u32]) {
+    let n = pool::consts::start_consts(consts);
+    let m = literals(consts, n);
+    let k = floats(consts, m);
+    let j = others(consts, k);
+    let full = effects(consts, j);
+    lit(consts, full, 2, 9, 0);
+    lit(consts, full, 2, 3, 1);
 }
 
 fn main() {
-    let mut consts = [0u32; SIZE];
-    few(&mut consts);
-    chains(&mut consts);
-    full(&mut consts);
+    // the words past the lent ones stay
+    let mut consts = [77u32; 51];
+    run(&mut consts[..48]);
+    words(&consts);
+    let mut none = [0u32; 0];
+    lit(&mut none, 1, 2, 9, 0);
 }

@@ -28,7 +28,7 @@ same_word recs f lt = by (ltb f limit) refl
         let l : length recs < limit * 8 = (div-lt_iff_lt-mul (lit< tt)).0 lt in
         get_or-eq_default recs 0 (omega arith) ∙ sym (get_or-eq_default recs 0 (omega arith))
 
-module _ {c : Walk} {records o₀ : List ℕ} {o : Outs} {A : State} {w : List ℕ} {b : Bool} (p : Words) (small : size records < limit)
+module _ {c : Walk} {records : List ℕ} {o₀ o : Outs} {A : State} {w : List ℕ} {b : Bool} (p : Words) (small : size records < limit)
     (e : b ≡ eqb (word records (at w FUNCTION) 1) 2) (h : Rep c records o₀ A o w) where
   pub in_do : is_do (words records c.function) ≡ b
   in_do = ap (λ (n : ℕ). eqb n 2) (sym (ap (λ (r : ℕ). word records r 1) h.reads.function ∙ same_word records c.function small)) ∙ sym e

@@ -10,11 +10,8 @@ use borrow.Author.Tests.{ltb-true, ltb-false}
 use Rattle.tables.specs.Record.{Words}
 use Rattle.rules.specs.declared.Flow.{Flow}
 use Rattle.rules.specs.declared.Flow.TheVariants.{Go, Cut, Refused}
-use Rattle.tables.specs.declared.refusal.RunRule.TheVariants.{Constants}
-use Rattle.pool.specs.Value.{Value, is_full}
-use Rattle.rules.specs.Marker.{ConstOp, Load, Mark, mark}
-use Rattle.rules.specs.Constants.{consts}
-use Rattle.rules.specs.Run.{Loop, State, st, marks, labels, loops, opened, flow, side, emit, bring_by, bring, bump, halt, begin, finish, kept, nested}
+use Rattle.rules.specs.Marker.{Mark}
+use Rattle.rules.specs.Run.{Loop, State, st, marks, labels, loops, opened, flow, side, emit, bump, halt, begin, finish, kept, nested}
 use Rattle.emit.specs.Words.{limit, cap, more, goes, is_cut, flow_in, cap_flow}
 use Rattle.emit.specs.Sinks.{going}
 
@@ -72,14 +69,6 @@ unfolding halt
 no_halt f (st m l ls os Go e) q = absurd (clash q)
 no_halt f (st m l ls os (Cut k a b) e) q = refl
 no_halt f (st m l ls os (Refused n r) e) q = refl
-
-pub no_bring : (r : ℕ) (c : ConstOp) (v : Value) → Rests (bring r c v)
-unfolding bring
-no_bring r c v A q = by (is_full (consts (marks A)) v)
-  where
-    by : (b : Bool) → bring_by b r c v A ≡ A
-    by true = no_halt (Refused Constants r) A q
-    by false = no_emit (mark r (Load c v)) A q
 
 pub no_begin : (trim : List Loop → List Loop) (x : Loop) → Rests (begin trim x)
 unfolding begin

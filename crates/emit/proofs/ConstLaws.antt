@@ -1,125 +1,152 @@
 -- A constant added and named: the sinks' equations, and what they make of a state. Assumes nothing.
-use mathlib.Core.Path.{◌≡◌, refl, sym, ap, ap₂, ◌∙◌, subst, subst⁻¹}
+use mathlib.Core.Path.{◌≡◌, refl, sym, ap, ap₂, ◌∙◌, subst}
 use mathlib.Core.Bool.{Bool, true, false, cond}
-use mathlib.Core.List.{List, ◌∷◌}
-use Prim.Native.Nat.{ℕ, ◌≤◌, ◌<◌, min}
+use mathlib.Core.List.{List, [], ◌∷◌}
+use Prim.Native.Nat.{ℕ, suc, ◌+◌, ◌*◌, ◌≤◌, ◌<◌, min}
 use native.Mathlib.Omega.{arith}
-use lib.ListN.{length}
-use denote.Enum.Declared.{tag_of}
-use Rattle.pool.specs.contracts.consts.Added.{the_type}
-use Rattle.opcode.specs.declared.index.ConstId.{ConstId}
+use lib.ListN.{length, set}
 use Rattle.opcode.specs.Words.{pair_of}
-use Rattle.tables.specs.declared.refusal.RunRule.TheVariants.{Constants}
-use Rattle.pool.specs.Value.{Value, Null, Const, find, intern, is_full}
-use Rattle.pool.specs.Table.{Holds, added, held, constant, Adds}
+use Rattle.pool.specs.Value.{Value, Const, find, intern}
+use Rattle.pool.specs.Consts.{const_of, table, room, laid, most, added, index_of, count_of, written, Told}
 use Rattle.pool.specs.ConstValues.{lit_of}
 use Rattle.pool.specs.declared.value.ConstValue.{ConstValue}
 use Rattle.pool.specs.declared.consts.Added.{Added}
-use Rattle.pool.specs.declared.consts.Added.TheVariants.{At, Full}
-use Rattle.pool.proofs.ConstsLaws.{find_intern, find_counted, added_at, added_none, held_at, held_none}
-use Rattle.rules.specs.declared.Flow.TheVariants.{Refused}
-use Rattle.rules.specs.Marker.{ConstOp, LoadConst, Load, Mark, mark}
-use Rattle.rules.specs.Constants.{brought, consts}
-use Rattle.rules.specs.Run.{State, marks, emit, bring}
-use Rattle.rules.specs.Out.{const_number}
-use Rattle.rules.proofs.Bring.{null_first, null_kept, null_never_full, bring_has, bring_full}
-use Rattle.emit.specs.Words.{limit, cap, at, goes}
-use Rattle.emit.specs.Sinks.{Pushes, stopped, Names, Loads}
-use Rattle.emit.specs.Rep.{outs, Walk, Rep}
-use Rattle.emit.proofs.Basics.{on_true, on_false, no_bring}
-use Rattle.emit.proofs.RepLaws.{given, stood, halted}
-use Rattle.emit.proofs.MarkLaws.{same_words, retabled, still_writes, pushed_going}
+use Rattle.pool.specs.declared.consts.ConstWords.{ConstWords}
+use Rattle.pool.proofs.ConstsLaws.{intern_length, find_intern, added_index, added_count}
+use Rattle.pool.proofs.LaidLaws.{told_const, told_intern, table_laid, written_laid}
+use Rattle.rules.specs.declared.Flow.TheVariants.{Go}
+use Rattle.rules.specs.Marker.{ConstOp, Label, To, Back, Leave, Load, Do, Mark, mark}
+use Rattle.rules.specs.Run.{State, st, marks, labels, loops, opened, flow, side, emit}
+use Rattle.rules.specs.Out.{consts, brought, const_number}
+use Rattle.emit.specs.Words.{limit, cap, MARKERS, CONSTS, FLOW, NEST, at, write, put}
+use Rattle.emit.specs.Sinks.{put2, writes, Pushes, constant, index_in, count_in, Adds, Loads}
+use Rattle.emit.specs.Rep.{Outs, outs, lay, Flat, Walk, Reads, Rep}
+use Rattle.emit.proofs.Basics.{clash, on_true, on_false, bool_or, shape}
+use Rattle.emit.proofs.WordLaws.{low_stack}
+use Rattle.emit.proofs.SinkLaws.{writes_so}
+use Rattle.emit.proofs.RepLaws.{given, moved, went, go_flow}
+use Rattle.emit.proofs.MarkLaws.{no_marker, same_words}
+use mathlib.Core.Logic.{◌⊎◌, inl, inr}
+use lib.Seq.{get_or-set_other}
 
 -- ---- the sinks
 
-pub was_full : (a : Added) → tag_of the_type a ≡ 1 → a ≡ Full
-was_full (At i) q = absurd (omega arith)
-was_full Full q = refl
+-- what the calls of add_const say, one after the other
+pub adds_by : {recs cs w cs' w' : List ℕ} {n m x y i : ℕ} {v u : ConstWords} {a : Added} → n ≡ at w CONSTS → v ≡ u
+    → a ≡ added (table recs cs n) (room cs n) (constant recs v) → cs' ≡ written recs cs n v.kind v.low v.high → m ≡ count_of a → x ≡ cap m
+    → w' ≡ set w CONSTS x → y ≡ index_of a → i ≡ cap y → Adds recs cs w cs' w' u i
+adds_by {recs} {cs} {w} {n = n} {v = v} {u = u} en ev ea ec em ex ew ey ei =
+    record {
+      index = ei ∙ ap cap (ey ∙ ap index_of ea ∙ added_index (table recs cs n) (room cs n) (constant recs v)) ∙ ap₂ (index_in recs cs) en ev;
+      consts = ec ∙ ap₂ (λ (k : ℕ) (z : ConstWords). written recs cs k z.kind z.low z.high) en ev;
+      frame = ew ∙ ap (set w CONSTS) (ex ∙ ap cap (em ∙ ap count_of ea ∙ added_count (table recs cs n) (room cs n) (constant recs v)) ∙ ap₂ (count_in recs cs) en ev);
+    }
 
--- a run that does not go on: nothing is named, and nothing refused
-still_names : {o w o' w' : List ℕ} (x q : ℕ) (a : Added) → goes (at w) ≡ false → Names o w o' w' x q a → (o' ≡ o) × (w' ≡ w)
-unfolding stopped
-still_names {w = w} x q (At i) g k = let e = still_writes (at w) g in (k.code ∙ on_false _ _ _ e, k.frame ∙ on_false _ _ _ e)
-still_names x q Full g k = (k.0, k.1 ∙ on_false _ _ _ g)
+module _ {recs o cs w o' cs' w' : List ℕ} {x : ℕ} {v : ConstWords} {b : Bool} (e : b ≡ writes (at w)) where
+  -- the count of constants is no place that a marker's sink looks at
+  pub loads_yes : {w₁ : List ℕ} {i : ℕ} → b ≡ true → Adds recs cs w cs' w₁ v i → Pushes o w₁ o' w' (pair_of x i) → Loads recs o cs w o' cs' w' x v
+  loads_yes {w₁} {i} t a k =
+      let other : (j : ℕ) → (j ≡ CONSTS → ⊥) → at w₁ j ≡ at w j = λ j ne. ap (λ (z : List ℕ). at z j) a.frame ∙ get_or-set_other w CONSTS j _ 0 ne in
+      let m : at w₁ MARKERS ≡ at w MARKERS = other MARKERS (λ z. omega arith) in
+      let same : writes (at w₁) ≡ writes (at w) = rw (m, other NEST (λ z. omega arith), other FLOW (λ z. omega arith)) in
+      let y : writes (at w₁) ≡ true = same ∙ sym e ∙ t in
+      record {
+        consts = a.consts ∙ sym (on_true _ _ _ (sym e ∙ t));
+        code = k.code ∙ on_true _ _ _ y ∙ ap₂ (λ (n j : ℕ). put2 o n x j) m a.index ∙ sym (on_true _ _ _ (sym e ∙ t));
+        frame = k.frame ∙ on_true _ _ _ y ∙ ap₂ (λ (z : List ℕ) (n : ℕ). set z MARKERS (n + 1)) a.frame m ∙ sym (on_true _ _ _ (sym e ∙ t));
+      }
 
-names_still : (o w : List ℕ) (x q : ℕ) (a : Added) → goes (at w) ≡ false → Names o w o w x q a
-unfolding stopped
-names_still o w x q (At i) g = let e = still_writes (at w) g in record { code = sym (on_false _ _ _ e); frame = sym (on_false _ _ _ e) }
-names_still o w x q Full g = (refl, sym (on_false _ _ _ g))
+pub loads_no : {recs o cs w : List ℕ} {x : ℕ} {v : ConstWords} {b : Bool} → b ≡ writes (at w) → b ≡ false → Loads recs o cs w o cs w x v
+loads_no e t = record { consts = sym (on_false _ _ _ (sym e ∙ t)); code = sym (on_false _ _ _ (sym e ∙ t)); frame = sym (on_false _ _ _ (sym e ∙ t)) }
 
-module _ {recs o t w : List ℕ} {x q : ℕ} {v : ConstValue} {g : Bool} (e : g ≡ goes (at w)) where
-  -- the run goes on: what adding answered
-  pub loads_by : {o' t' w' : List ℕ} {a b : Added} → g ≡ true → Adds recs t t' v a → a ≡ b → Names o w o' w' x q b → Loads recs o t w o' t' w' x q v
-  loads_by {o'} {t'} {w'} y k i n = record {
-    table = λ cs h. subst⁻¹ (λ (us : List Const). Holds recs t' us) (on_true _ _ _ (sym e ∙ y)) (k.words cs h);
-    names = λ cs h. subst (Names o w o' w' x q) (sym i ∙ k.answer cs h) n;
-  }
-
-  pub loads_none : g ≡ false → Loads recs o t w o t w x q v
-  loads_none y = record {
-    table = λ cs h. subst⁻¹ (λ (us : List Const). Holds recs t us) (on_false _ _ _ (sym e ∙ y)) h;
-    names = λ cs h. names_still o w x q (added cs (constant recs v)) (sym e ∙ y);
-  }
-
-pub loads_as : {recs o t w o' t' w' : List ℕ} {x q : ℕ} {u v : ConstValue} → u ≡ v → Loads recs o t w o' t' w' x q u → Loads recs o t w o' t' w' x q v
-loads_as {recs} {o} {t} {w} {o'} {t'} {w'} {x} {q} e h = subst (λ (z : ConstValue). Loads recs o t w o' t' w' x q z) e h
+pub loads_as : {recs o cs w o' cs' w' : List ℕ} {x : ℕ} {u v : ConstWords} → u ≡ v → Loads recs o cs w o' cs' w' x u → Loads recs o cs w o' cs' w' x v
+loads_as {recs} {o} {cs} {w} {o'} {cs'} {w'} {x} e h = subst (λ (z : ConstWords). Loads recs o cs w o' cs' w' x z) e h
 
 pub lit_as : {v : ConstValue} {d p q d' p' q' : ℕ} → v ≡ lit_of d p q → d ≡ d' → p ≡ p' → q ≡ q' → v ≡ lit_of d' p' q'
 lit_as {q = q} {d' = d'} {p' = p'} e x y z = e ∙ ap₂ (λ (a b : ℕ). lit_of a b q) x y ∙ ap (lit_of d' p') z
 
 -- ---- the state
 
+-- markers name no more constants than they are, but for Null
+pub table_short : (m : List Mark) → length (consts m) ≤ suc (length m)
+unfolding consts
+table_short [] = omega arith
+table_short (mark r (Label l) ∷ m) = omega (arith, table_short m)
+table_short (mark r (To h l) ∷ m) = omega (arith, table_short m)
+table_short (mark r (Back l) ∷ m) = omega (arith, table_short m)
+table_short (mark r (Leave x l) ∷ m) = omega (arith, table_short m)
+table_short (mark r (Load c v) ∷ m) = omega (arith, table_short m, (intern_length (consts m) (brought r v)).1)
+table_short (mark r (Do c n) ∷ m) = omega (arith, table_short m)
+
+module _ (recs o cs : List ℕ) (o' cs' : List ℕ) (place count : ℕ) (c : ConstOp) (v : ConstWords) (lt : place < limit) (zero7 : v.kind ≡ 7 → v.high ≡ 0)
+    (ew : cs' ≡ written recs cs count v.kind v.low v.high) (eo : o' ≡ put2 o place (const_number c) (index_in recs cs count v)) where
+  added_flat : (o₀ : Outs) (m : List Mark) (q : ℕ) (x : Value) → constant recs v ≡ brought q x → Flat recs o₀ m (outs o cs) place count
+      → Flat recs o₀ (mark q (Load c x) ∷ m) (outs o' cs') (place + 1) (count_in recs cs count v)
+  unfolding lay consts
+  added_flat o₀ m q x same f =
+      let p : place ≡ cap (length m) = f.place in
+      let here : place ≡ length m = omega arith in
+      let ts = consts m in
+      let d = brought q x in
+      let long = intern_length ts d in
+      record {
+        wrote = λ room₁.
+            let few : suc (length m) < limit = room₁.few in
+            let wide : length (intern ts d) * 3 ≤ length o₀.consts = room₁.table in
+            let fits : length ts * 3 ≤ length o₀.consts = omega (arith, long.0) in
+            let t = f.wrote (record { table = fits; few = omega arith }) in
+            let laid_table : table recs (laid o₀.consts 0 ts) (length ts) ≡ ts = table_laid recs o₀.consts ts t.told fits in
+            let tab : table recs cs count ≡ ts = ap₂ (table recs) t.table t.entries ∙ laid_table in
+            let found : index_in recs cs count v ≡ cap (find (intern ts d) x) = ap₂ (λ (us : List Const) (z : Const). cap (find us z.value)) tab same ∙ ap cap (sym
+            (find_intern ts d)) in
+            let cut : cap (min (length (intern ts d)) most) ≡ length (intern ts d) = omega (arith, long.1, table_short m) in
+            record {
+              words = eo ∙ ap₂ (λ (j k : ℕ). put2 o j (const_number c) k) here found ∙ ap (λ (us : List ℕ). put2 us (length m) (const_number c) (cap (find (intern ts
+                  d) x))) t.words;
+              table = ew ∙ ap₂ (λ (us : List ℕ) (j : ℕ). written recs us j v.kind v.low v.high) t.table t.entries
+                  ∙ written_laid recs o₀.consts ts v.kind v.low v.high zero7 laid_table ∙ ap (λ (z : Const). laid o₀.consts 0 (intern ts z)) same;
+              told = told_intern recs ts d t.told (subst (λ (z : Const). Told recs z) same (told_const recs v.kind v.low v.high));
+              entries = ap₂ (λ (us : List Const) (z : Const). cap (min (length (intern us z)) most)) tab same ∙ cut;
+            };
+        place = omega arith;
+      }
+
 -- the constant of the words v is the value x, which record q brings
-module _ {c : Walk} {recs o₀ : List ℕ} {A : State} {o t w o' t' w' : List ℕ} {v : ConstValue} (y : ConstOp) (q : ℕ) (x : Value) (same : constant recs v ≡ brought q x)
-    (k : Loads recs o t w o' t' w' (const_number y) q v) (h : Rep c recs o₀ A (outs o t) w) where
-  abbrev ts : List Const
-  ts = consts (marks A)
+module _ {c : Walk} {recs : List ℕ} {o₀ : Outs} {A : State} {o cs w o' cs' w' : List ℕ} {v : ConstWords} (y : ConstOp) (q : ℕ) (x : Value)
+    (zero7 : v.kind ≡ 7 → v.high ≡ 0) (same : constant recs v ≡ brought q x) (k : Loads recs o cs w o' cs' w' (const_number y) v)
+    (h : Rep c recs o₀ A (outs o cs) w) where
+  added_yes : writes (at w) ≡ true → Rep c recs o₀ (emit (mark q (Load y x)) A) (outs o' cs') w'
+  unfolding emit
+  added_yes e =
+      let z = writes_so (at w) e in
+      let n : c.nest ≡ false = sym h.reads.nest ∙ z.0 in
+      let ps = write CONSTS (count_in recs cs (at w CONSTS) v) ∷ write MARKERS (at w MARKERS + 1) ∷ [] in
+      given (ap (emit (mark q (Load y x))) (shape A (went h z.1)))
+      (moved ps w refl (k.frame ∙ on_true _ _ _ e) h.size (record {
+        flat = λ i. added_flat recs o cs o' cs' (at w MARKERS) (at w CONSTS) y v z.2 zero7 (k.consts ∙ on_true _ _ _ e) (k.code ∙ on_true _ _ _ e) o₀ (marks A) q
+            x same (h.reads.flat i);
+        noted = λ i. absurd (clash (sym i ∙ n));
+        labels = h.reads.labels;
+        loops = λ i. low_stack ps (at w) (loops A) refl (h.reads.loops i);
+        depth = h.reads.depth;
+        deep = h.reads.deep;
+        flow = go_flow (at w) z.1;
+        errors = h.reads.errors;
+        met = h.reads.met;
+        nest = h.reads.nest;
+        function = h.reads.function;
+        stack = h.reads.stack;
+      }))
 
-  abbrev d : Const
-  d = brought q x
+  added_no : writes (at w) ≡ false → Rep c recs o₀ (emit (mark q (Load y x)) A) (outs o' cs') w'
+  added_no e =
+      let h' = no_marker A (mark q (Load y x)) w e h in
+      subst (λ (us : List ℕ). Rep c recs o₀ (emit (mark q (Load y x)) A) (outs o' us) w') (sym (k.consts ∙ on_false _ _ _ e))
+      (same_words (k.code ∙ on_false _ _ _ e) (k.frame ∙ on_false _ _ _ e) h')
 
-  tab : Holds recs t' (cond (goes (at w)) (held ts d) ts)
-  tab = subst (λ (z : Const). Holds recs t' (cond (goes (at w)) (held ts z) ts)) same (k.table ts h.reads.held)
-
-  sink : Names o w o' w' (const_number y) q (added ts d)
-  sink = subst (λ (z : Const). Names o w o' w' (const_number y) q (added ts z)) same (k.names ts h.reads.held)
-
-  tab_going : goes (at w) ≡ true → Holds recs t' (held ts d)
-  tab_going g = subst (λ (us : List Const). Holds recs t' us) (on_true _ _ _ g) tab
-
-  pub loaded : Rep c recs o₀ (bring q y x A) (outs o' t') w'
-  unfolding consts
-  loaded = by (goes (at w)) (is_full ts x) refl refl
+  pub loaded : Rep c recs o₀ (emit (mark q (Load y x)) A) (outs o' cs') w'
+  loaded = go (bool_or (writes (at w)))
     where
-      by : (g f : Bool) → goes (at w) ≡ g → is_full ts x ≡ f → Rep c recs o₀ (bring q y x A) (outs o' t') w'
-      by false f g e =
-          let z = still_names (const_number y) q (added ts d) g sink in
-          given (no_bring q y x A (stood h g))
-          (same_words z.0 z.1 (retabled (subst (λ (us : List Const). Holds recs t' us) (on_false _ _ _ g) tab) h))
-      by true true g e =
-          let n : (o' ≡ o) × (w' ≡ stopped (Refused Constants q) w) = subst (Names o w o' w' (const_number y) q) (added_none ts d e) sink in
-          let j : Holds recs t' ts = subst (λ (us : List Const). Holds recs t' us) (held_none ts d e) (tab_going g) in
-          given (bring_full q y x A e) (same_words n.0 refl (halted (Refused Constants q) n.1 (retabled j h)))
-      by true false g e =
-          let n : Pushes o w o' w' (pair_of (const_number y) (find ts x)) = subst (Names o w o' w' (const_number y) q) (added_at ts d e) sink in
-          let j : Holds recs t' (intern ts d) = subst (λ (us : List Const). Holds recs t' us) (held_at ts d e) (tab_going g) in
-          let i : find ts x < length (intern ts d) = find_counted ts d in
-          let s : find ts x ≡ cap (find (intern ts d) x) = omega (arith, find_intern ts d, j.few) in
-          given (bring_has q y x A e) (pushed_going q (Load y x) (λ z. (refl, s)) n j h g)
-
--- Null is there, and its index is 0
-pub null_pushed : {c : Walk} {recs o₀ : List ℕ} {A : State} {o t w o' w' : List ℕ} (q : ℕ) → Pushes o w o' w' (pair_of 6 0) → Rep c recs o₀ A (outs o t) w
-    → Rep c recs o₀ (bring q LoadConst Null A) (outs o' t) w'
-null_pushed {c} {recs} {o₀} {A} {o} {t} {w} {o'} {w'} q k h = by (goes (at w)) refl
-  where
-    m : List Mark
-    m = marks A
-
-    by : (g : Bool) → goes (at w) ≡ g → Rep c recs o₀ (bring q LoadConst Null A) (outs o' t) w'
-    by true g =
-        let z : ◌≡◌ {A = ℕ} 0 (cap (find (consts (mark q (Load LoadConst Null) ∷ m)) Null)) = ap cap (sym (null_first (mark q (Load LoadConst Null) ∷ m))) in
-        given (bring_has q LoadConst Null A (null_never_full m))
-        (pushed_going q (Load LoadConst Null) (λ n. (refl, z)) k (subst⁻¹ (λ (us : List Const). Holds recs t us) (null_kept q LoadConst m) h.reads.held) h g)
-    by false g =
-        let e = still_writes (at w) g in
-        given (no_bring q LoadConst Null A (stood h g)) (same_words (k.code ∙ on_false _ _ _ e) (k.frame ∙ on_false _ _ _ e) h)
+      go : (writes (at w) ≡ true) ⊎ (writes (at w) ≡ false) → Rep c recs o₀ (emit (mark q (Load y x)) A) (outs o' cs') w'
+      go (inl e) = added_yes e
+      go (inr e) = added_no e

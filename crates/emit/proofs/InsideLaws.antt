@@ -12,13 +12,10 @@ use Rattle.tables.specs.declared.refusal.RunRule.TheVariants.{Skipped}
 use Rattle.rules.specs.declared.Flow.TheVariants.{Go, Refused}
 use Rattle.rules.specs.declared.StackCode.{StackCode}
 use Rattle.rules.specs.declared.StackCode.TheVariants.{Code1, Code2}
-use Rattle.pool.specs.Value.{start}
-use Rattle.pool.specs.Table.{Holds}
-use Rattle.rules.specs.Constants.{consts}
 use Rattle.rules.specs.Run.{Error, Side, State, st, marks, labels, loops, opened, flow, side, halt, settle, kept, anew, returned, entered, nested}
 use Rattle.emit.specs.Words.{limit, cap, more, LABELS, DEPTH, FUNCTIONS, FUNCTION, PAST, SIZE, at, Write, write, put, goes, nests, bit, code_of}
 use Rattle.emit.specs.Sinks.{beginning, stopped, outer_of, carry, numbered, inside, back_to, Enters, Keeps}
-use Rattle.emit.specs.Rep.{Outs, outs, lay, note, Noted, Walk, within, Stack, Met, Reads, Rep, Lent, Scoped, Sim}
+use Rattle.emit.specs.Rep.{Outs, outs, Flat, Noted, Walk, within, Stack, Met, Reads, Rep, Lent, Scoped, Sim}
 use Rattle.emit.specs.declared.function.Outer.{Outer}
 use Rattle.emit.proofs.Basics.{clash, on_true, on_false, shape, more_cap, no_nested, no_kept}
 use Rattle.emit.proofs.RepLaws.{given, moved, went, stood, go_flow, halted}
@@ -26,14 +23,13 @@ use Rattle.emit.proofs.MarkLaws.{settled}
 
 -- ---- a run begins: no marker, no label, no loop, no error
 
-pub started : {records o₀ : List ℕ} {o : Outs} (sc : StackCode) (nest : Bool) (r : ℕ) (w : List ℕ) {w' : List ℕ} (e : Side) → e.errors ≡ [] → (nest ≡ true → e.met ≡ 0)
-    → o.code ≡ o₀ → Holds records o.consts start → length w ≡ SIZE → w' ≡ put w (beginning sc nest r)
+pub started : {records : List ℕ} {o₀ o : Outs} (sc : StackCode) (nest : Bool) (r : ℕ) (w : List ℕ) {w' : List ℕ} (e : Side) → e.errors ≡ [] → (nest ≡ true → e.met ≡ 0)
+    → (nest ≡ false → Flat records o₀ [] o 0 1) → (nest ≡ true → Noted o₀ [] o) → length w ≡ SIZE → w' ≡ put w (beginning sc nest r)
     → Rep (record { code = sc; nest = nest; function = r }) records o₀ (st [] 0 [] [] Go e) o w'
-unfolding Stack lay note consts
-started {o₀ = o₀} {o} sc nest r w e es me same table n q = moved (beginning sc nest r) w refl q n (record {
-  flat = λ i. record { words = λ few. same; place = refl };
-  noted = λ i. subst⁻¹ (λ (k : List Error). Noted o₀ k o.code) es (λ few. same);
-  held = table;
+unfolding Stack
+started sc nest r w e es me flat noted n q = moved (beginning sc nest r) w refl q n (record {
+  flat = flat;
+  noted = λ i. rw es (noted i);
   labels = refl;
   loops = λ i. tt;
   depth = refl;
@@ -116,7 +112,7 @@ module _ (e : Lent) (r : ℕ) (p : Words) (v : Walk → State → State) where
   inside_still n = record { sim = λ z c o₀ A h. given (no_nested c.nest r p (v (within r c)) A (stood h n)) h }
 
   module _ {w : List ℕ} {b : Bool} (small : p.p ≤ limit) (n : nests (at w) ≡ true) (g : goes (at w) ≡ true) (d : b ≡ numbered p.p (at w)) where
-    nest_now : {c : Walk} {o₀ : List ℕ} {o : Outs} {A : State} {q : Bool} → Rep c e.records o₀ A o w → b ≡ q → (f : State → State)
+    nest_now : {c : Walk} {o₀ o : Outs} {A : State} {q : Bool} → Rep c e.records o₀ A o w → b ≡ q → (f : State → State)
         → nested c.nest r p f A ≡ entered q r p f (marks A) (labels A) (loops A) (opened A) (side A)
     nest_now {c} {A = A} {q} h y f =
         let k : c.nest ≡ true = sym h.reads.nest ∙ n in
@@ -130,17 +126,16 @@ module _ (e : Lent) (r : ℕ) (p : Words) (v : Walk → State → State) where
           given (nest_now h y (v (within r c)) ∙ sym (ap (halt (Refused Skipped r)) (shape A (went h g)))) (halted (Refused Skipped r) k h);
     }
 
-    -- the code's calls: start_consts, begin_function, the stream, keep_error, end_function; the function inside has a table t of its own
-    pub inside_goes : {o cs t o' t' o'' w₁ w₂ w₃ w₄ : List ℕ} {x : Outer} → b ≡ true → Holds e.records t start → Enters w w₁ r x → Sim e (outs o t) w₁ (outs o' t') w₂ v
-        → Keeps o' w₂ o'' w₃ → w₄ ≡ put w₃ (back_to x) → Inside (outs o cs) w (outs o'' cs) w₄
-    unfolding Stack consts
-    inside_goes {o} {cs} {t} {o'} {t'} {o''} {w₁} {w₂} {w₃} {w₄} {x} y d i a k q = record {
+    -- the code's calls: begin_function, the stream, keep_error, end_function
+    pub inside_goes : {o : Outs} {o' cs o'' w₁ w₂ w₃ w₄ : List ℕ} {x : Outer} → b ≡ true → Enters w w₁ r x → Sim e o w₁ (outs o' cs) w₂ v → Keeps o' w₂ o'' w₃
+        → w₄ ≡ put w₃ (back_to x) → Inside o w (outs o'' cs) w₄
+    unfolding Stack
+    inside_goes {o} {o'} {cs} {o''} {w₁} {w₂} {w₃} {w₄} {x} y i a k q = record {
       sim = λ z c o₀ A h.
           let m : c.nest ≡ true = sym h.reads.nest ∙ n in
-          let hB : Rep (within r c) e.records o₀ (anew (side A)) (outs o t) w₁ = moved (inside r (at w)) w refl i.frame h.size (record {
+          let hB : Rep (within r c) e.records o₀ (anew (side A)) o w₁ = moved (inside r (at w)) w refl i.frame h.size (record {
             flat = λ f. absurd (clash (sym m ∙ f));
             noted = h.reads.noted;
-            held = d;
             labels = refl;
             loops = λ f. tt;
             depth = refl;
@@ -158,12 +153,11 @@ module _ (e : Lent) (r : ℕ) (p : Words) (v : Walk → State → State) where
         capped : (n : ℕ) → cap (cap n) ≡ cap n
         capped n = omega arith
 
-        left : (c : Walk) {o₀ : List ℕ} {A X : State} → c.nest ≡ true → Rep c e.records o₀ A (outs o cs) w → Rep (within r c) e.records o₀ X (outs o'' t') w₃
+        left : (c : Walk) {o₀ : Outs} {A X : State} → c.nest ≡ true → Rep c e.records o₀ A o w → Rep (within r c) e.records o₀ X (outs o'' cs) w₃
             → Rep c e.records o₀ (returned r p (marks A) (labels A) (loops A) (opened A) X) (outs o'' cs) w₄
         left c {A = A} {X = st m l ls os f s} j h k = moved (back_to x) w₃ refl q k.size (record {
           flat = λ f. absurd (clash (sym j ∙ f));
           noted = k.reads.noted;
-          held = h.reads.held;
           labels = ap (λ (u : Outer). u.labels) i.outer ∙ h.reads.labels;
           loops = λ f. absurd (clash (sym j ∙ f));
           depth = ap (λ (u : Outer). u.depth) i.outer ∙ h.reads.depth;

@@ -45,7 +45,7 @@ label_word : (x : Way) (c b l : ℕ) → l ≡ cap c → b ≡ suc c → label_o
 label_word Break c b l e q = ap more e ∙ more_cap c ∙ ap cap (sym q)
 label_word Continue c b l e q = e
 
-module _ {c : Walk} {records o₀ : List ℕ} {A : State} {w : List ℕ} {x : LabelLookup} (r : ℕ) (p : Words) (y : Way) (e : x ≡ continue_of w) where
+module _ {c : Walk} {records : List ℕ} {o₀ : Outs} {A : State} {w : List ℕ} {x : LabelLookup} (r : ℕ) (p : Words) (y : Way) (e : x ≡ continue_of w) where
   pub left_none : {o : Outs} {w' : List ℕ} → x ≡ Absent → w' ≡ stopped (Cut (way_kind y) p.start p.end) w → Rep c records o₀ A o w
       → Rep c records o₀ (outward r p y A) o w'
   unfolding outward
@@ -68,6 +68,6 @@ module _ {c : Walk} {records o₀ : List ℕ} {A : State} {w : List ℕ} {x : La
           let lt : length ls < KEPT = omega (arith, h.reads.deep, h.reads.depth) in
           let s : l.0 ≡ at w (LOOPS + length ls) = found_label w l (sym e ∙ f) ∙ ap (loop_at w) d ∙ on_true _ _ _ (lt-ltb (length ls) KEPT lt) in
           given (ap (λ (us : List Loop). way_out r p y us A) z)
-          (pushed r (Leave y (label_of y i b)) tt (λ j.
+          (pushed r (Leave y (label_of y i b)) (λ j.
           let t : Stack (at w) (loop a i b ∷ ls) = subst (λ (us : List Loop). Stack (at w) us) z (h.reads.loops j) in
           (refl, q ∙ label_word y i b l.0 (s ∙ t.0) t.1)) k h)

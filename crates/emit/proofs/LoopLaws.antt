@@ -12,7 +12,7 @@ use borrow.Author.Tests.{eqb-true, eqb-false, ltb-true, ltb-false}
 use Rattle.rules.specs.declared.Flow.TheVariants.{Go, Cut, Refused}
 use Rattle.rules.specs.declared.StackCode.TheVariants.{Code1, Code2}
 use Rattle.rules.specs.Run.{Loop, loop, State, st, marks, labels, loops, opened, flow, side, bump, begin}
-use Rattle.emit.specs.Words.{cap, MARKERS, LABELS, DEPTH, FLOW, WHY, FROM, TO, ERRORS, FUNCTIONS, NEST, FUNCTION, STACK, PAST, LOOPS, KEPT, SIZE, at, flow_in}
+use Rattle.emit.specs.Words.{cap, MARKERS, LABELS, CONSTS, DEPTH, FLOW, WHY, FROM, TO, ERRORS, FUNCTIONS, NEST, FUNCTION, STACK, PAST, LOOPS, KEPT, SIZE, at, flow_in}
 use Rattle.emit.specs.Sinks.{shifted, opened as opening}
 use Rattle.emit.specs.Rep.{Outs, Walk, Flat, Stack, Reads, Rep}
 use Rattle.emit.proofs.Basics.{clash, shape, no_begin}
@@ -21,13 +21,13 @@ use Rattle.emit.proofs.RepLaws.{went, if_going}
 
 -- ---- a frame that reads as another but for its loops
 
-reloop : {c : Walk} {records o₀ : List ℕ} {o : Outs} {A : State} (ρ τ : ℕ → ℕ) (ls os : List Loop)
+reloop : {c : Walk} {records : List ℕ} {o₀ o : Outs} {A : State} (ρ τ : ℕ → ℕ) (ls os : List Loop)
     → ((j : ℕ) → j < LOOPS → (j ≡ DEPTH → ⊥) → τ j ≡ ρ j) → (c.nest ≡ false → Stack τ ls) → τ DEPTH ≡ length ls → length ls ≤ KEPT
     → Reads c records o₀ A o ρ → Reads c records o₀ (st (marks A) (labels A) ls os (flow A) (side A)) o τ
 reloop {c} {records} {o₀} {o} {A} ρ τ ls os q s d le h = record {
-  flat = λ n. subst⁻¹ (λ (m : ℕ). Flat o₀ (marks A) o.code m) (is MARKERS (lit< tt) refl) (h.flat n);
+  flat = λ n. subst⁻¹ (λ (m : ℕ). Flat records o₀ (marks A) o m (τ CONSTS)) (is MARKERS (lit< tt) refl) (subst⁻¹ (λ (m : ℕ). Flat records o₀ (marks A) o (ρ MARKERS) m)
+      (is CONSTS (lit< tt) refl) (h.flat n));
   noted = h.noted;
-  held = h.held;
   labels = is LABELS (lit< tt) refl ∙ h.labels;
   loops = s;
   depth = d;
@@ -100,7 +100,7 @@ all_taken (suc n) (l ∷ ls) h = ap (λ (k : List Loop). l ∷ k) (all_taken n l
 
 -- ---- begin_loop
 
-module _ {c : Walk} {records o₀ : List ℕ} {o : Outs} {A : State} (r k : ℕ) (l : ℕ) (w : List ℕ) (q : l ≡ cap k) (h : Rep c records o₀ A o w) where
+module _ {c : Walk} {records : List ℕ} {o₀ o : Outs} {A : State} (r k : ℕ) (l : ℕ) (w : List ℕ) (q : l ≡ cap k) (h : Rep c records o₀ A o w) where
   x : Loop
   x = loop r k (suc k)
 

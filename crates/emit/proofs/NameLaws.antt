@@ -96,7 +96,7 @@ store_captured ns i (Global n) e q = omega arith
 store_captured ns i (Upvalue n) e q = store_never ns i n.0 (sym e)
 store_captured ns i (Missing x) e q = omega arith
 
-module _ {c : Walk} {records o₀ : List ℕ} {A : State} {o w o' w' cs : List ℕ} (r : ℕ) where
+module _ {c : Walk} {records : List ℕ} {o₀ : Outs} {A : State} {o w o' w' cs : List ℕ} (r : ℕ) where
   used : (u : Use) (i : ℕ) (x : Access) → Small x → Uses o w o' w' u i x → Rep c records o₀ A (outs o cs) w → Rep c records o₀ (sought r u i x A) (outs o' cs) w'
   used u i (local n) s k h = said r (local_code u) n refl (let e : n ≡ cap n = omega arith in e) k h
   used u i (global n) s k h = said r (global_code u) n refl (let e : n ≡ cap n = omega arith in e) k h

@@ -20,6 +20,7 @@ use Rattle.emit.specs.Words.{
   more,
   MARKERS,
   LABELS,
+  CONSTS,
   DEPTH,
   FLOW,
   WHY,
@@ -50,7 +51,7 @@ use Rattle.emit.proofs.WordLaws.{below, length_put, at_put, low_stack}
 
 -- ---- the words that are written, and nothing else
 
-module _ {c : Walk} {records o₀ : List ℕ} {o : Outs} {A : State} where
+module _ {c : Walk} {records : List ℕ} {o₀ o : Outs} {A : State} where
   pub given : {B : State} {w : List ℕ} → B ≡ A → Rep c records o₀ A o w → Rep c records o₀ B o w
   given {B} {w} e h = subst⁻¹ (λ (X : State). Rep c records o₀ X o w) e h
 
@@ -76,7 +77,7 @@ cap_go Go = refl
 cap_go (Cut k a b) = refl
 cap_go (Refused x r) = refl
 
-module _ {c : Walk} {records o₀ : List ℕ} {o : Outs} {A : State} {w : List ℕ} where
+module _ {c : Walk} {records : List ℕ} {o₀ o : Outs} {A : State} {w : List ℕ} where
   pub went : Rep c records o₀ A o w → goes (at w) ≡ true → flow A ≡ Go
   went h g = is_go_lem (flow A) (sym (cap_go (flow A)) ∙ ap is_go (sym h.reads.flow ∙ go_flow (at w) g))
 
@@ -123,14 +124,13 @@ abbrev pub bumps : ℕ → State → State
 bumps zero A = A
 bumps (suc n) A = bump (bumps n A)
 
-module _ {c : Walk} {records o₀ : List ℕ} {o : Outs} where
+module _ {c : Walk} {records : List ℕ} {o₀ o : Outs} where
   taken : {A : State} (w : List ℕ) → Rep c records o₀ A o w → Rep c records o₀ (bump A) o (took w)
   unfolding took bump
   taken {A} w h = if_going no_bump refl h (λ g.
       moved (write LABELS (more (at w LABELS)) ∷ []) w refl refl h.size (record {
         flat = h.reads.flat;
         noted = h.reads.noted;
-        held = h.reads.held;
         labels = ap more h.reads.labels ∙ more_cap (labels A);
         loops = λ n. low_stack (write LABELS (more (at w LABELS)) ∷ []) (at w) (loops A) refl (h.reads.loops n);
         depth = h.reads.depth;
@@ -165,7 +165,6 @@ rule_back rule.Operator = refl
 rule_back rule.Lengths = refl
 rule_back rule.Path = refl
 rule_back rule.Skipped = refl
-rule_back rule.Constants = refl
 
 flow_back : (f : Flow) (ρ : ℕ → ℕ) → flow_in (overwritten (flow_words f) ρ) ≡ cap_flow f
 flow_back Go ρ = refl
@@ -173,12 +172,11 @@ flow_back (Cut k a b) ρ = refl
 flow_back (Refused x r) ρ = ap (λ (y : RunRule). Refused y (cap r)) (rule_back x)
 
 -- the flow's words are four places that nothing else reads
-flow_only : (f : Flow) {c : Walk} {records o₀ : List ℕ} {o : Outs} {A : State} {ρ : ℕ → ℕ} → Reads c records o₀ A o ρ
+flow_only : (f : Flow) {c : Walk} {records : List ℕ} {o₀ o : Outs} {A : State} {ρ : ℕ → ℕ} → Reads c records o₀ A o ρ
     → Reads c records o₀ (st (marks A) (labels A) (loops A) (opened A) f (side A)) o (overwritten (flow_words f) ρ)
 flow_only Go {A = A} {ρ = ρ} h = record {
   flat = h.flat;
   noted = h.noted;
-  held = h.held;
   labels = h.labels;
   loops = λ n. low_stack (flow_words Go) ρ (loops A) refl (h.loops n);
   depth = h.depth;
@@ -193,7 +191,6 @@ flow_only Go {A = A} {ρ = ρ} h = record {
 flow_only (Cut k a b) {A = A} {ρ = ρ} h = record {
   flat = h.flat;
   noted = h.noted;
-  held = h.held;
   labels = h.labels;
   loops = λ n. low_stack (flow_words (Cut k a b)) ρ (loops A) refl (h.loops n);
   depth = h.depth;
@@ -208,7 +205,6 @@ flow_only (Cut k a b) {A = A} {ρ = ρ} h = record {
 flow_only (Refused x r) {A = A} {ρ = ρ} h = record {
   flat = h.flat;
   noted = h.noted;
-  held = h.held;
   labels = h.labels;
   loops = λ n. low_stack (flow_words (Refused x r)) ρ (loops A) refl (h.loops n);
   depth = h.depth;
@@ -226,7 +222,7 @@ flow_below Go = refl
 flow_below (Cut k a b) = refl
 flow_below (Refused x r) = refl
 
-pub halted : {c : Walk} {records o₀ : List ℕ} {o : Outs} {A : State} {w w' : List ℕ} (f : Flow) → w' ≡ stopped f w → Rep c records o₀ A o w
+pub halted : {c : Walk} {records : List ℕ} {o₀ o : Outs} {A : State} {w w' : List ℕ} (f : Flow) → w' ≡ stopped f w → Rep c records o₀ A o w
     → Rep c records o₀ (halt f A) o w'
 unfolding stopped halt
 halted {A = A} {w} f e h = if_going (no_halt f) e h (λ g. moved (flow_words f) w (flow_below f) refl h.size (flow_only f h.reads))
@@ -242,14 +238,13 @@ unfolding Stack
 drop_stack ρ [] h = tt
 drop_stack ρ (loop o c b ∷ ls) h = h.2
 
-pub finished : {c : Walk} {records o₀ : List ℕ} {o : Outs} {A : State} {w w' : List ℕ} → w' ≡ closed w → Rep c records o₀ A o w
+pub finished : {c : Walk} {records : List ℕ} {o₀ o : Outs} {A : State} {w w' : List ℕ} → w' ≡ closed w → Rep c records o₀ A o w
     → Rep c records o₀ (finish A) o w'
 unfolding closed finish
 finished {c} {records} {o₀} {o} {A} {w} e h = if_going no_finish e h (λ g. by (ltb 0 (at w DEPTH)) refl (λ d q.
     moved (write DEPTH d ∷ []) w refl refl h.size (record {
       flat = h.reads.flat;
       noted = h.reads.noted;
-      held = h.reads.held;
       labels = h.reads.labels;
       loops = λ n. low_stack (write DEPTH d ∷ []) (at w) (drop1 (loops A)) refl (drop_stack (at w) (loops A) (h.reads.loops n));
       depth = q ∙ ap (λ (n : ℕ). n - 1) h.reads.depth ∙ sym (drop_length (loops A));

@@ -4,8 +4,7 @@ use Rattle.opcode.specs.declared.opcode.Words.{Words as MarkerWords}
 use Rattle.tables.specs.Record.{size as type_size}
 use Rattle.tables.specs.Forest.{next}
 use Rattle.rules.specs.declared.StackCode.{StackCode}
-use Rattle.pool.specs.Consts.{put3}
-use Rattle.pool.specs.Table.{Holds}
+use Rattle.pool.specs.Consts.{laid, put3, AllTold}
 use Rattle.pool.specs.Notes.{earlier_noted}
 use Rattle.rules.specs.Marker.{Op, Label, To, Back, Leave, Load, Do, Mark, mark}
 use Rattle.rules.specs.Run.{
@@ -21,12 +20,11 @@ use Rattle.rules.specs.Run.{
   side as side_of,
   Mode,
 }
-use Rattle.rules.specs.Constants.{consts}
-use Rattle.rules.specs.Out.{code_word, operand_word}
-use Rattle.emit.specs.Words.{limit, cap, MARKERS, LABELS, DEPTH, ERRORS, FUNCTIONS, FUNCTION, PAST, LOOPS, KEPT, SIZE, at, nests, flow_in, cap_flow, bit, code_in}
+use Rattle.rules.specs.Out.{consts, code_word, operand_word}
+use Rattle.emit.specs.Words.{limit, cap, MARKERS, LABELS, CONSTS, DEPTH, ERRORS, FUNCTIONS, FUNCTION, PAST, LOOPS, KEPT, SIZE, at, nests, flow_in, cap_flow, bit, code_in}
 use Rattle.emit.specs.Sinks.{put2}
 
--- what a walk writes: markers, or errors where the functions inside are walked too; and the constants of its function
+-- the lent output: without the functions inside, markers and constants; with them, errors only
 pub record Outs : Type 0 where
   pub code : List ℕ
   pub consts : List ℕ
@@ -43,14 +41,26 @@ unfoldable pub note : List ℕ → List Error → List ℕ
 note ws [] = ws
 note ws (error k a b ∷ es) = put3 (note ws es) (length es) k a b
 
--- a walk without the functions inside writes markers, as long as they are few
-pub record Flat (o₀ : List ℕ) (ms : List Mark) (o : List ℕ) (at : ℕ) : Type 0 where
-  pub words : length ms < limit → o ≡ lay o₀ ms
+-- the markers are few, and their constants have room; both hold of fewer markers where they hold of more
+pub record Room (o : Outs) (ms : List Mark) : Type 0 where
+  pub table : length (consts ms) * 3 ≤ length o.consts
+  pub few : length ms < limit
+
+pub record Wrote (records : List ℕ) (o₀ : Outs) (ms : List Mark) (o : Outs) (count : ℕ) : Type 0 where
+  pub words : o.code ≡ lay o₀.code ms
+  pub table : o.consts ≡ laid o₀.consts 0 (consts ms)
+  pub told : AllTold records (consts ms)
+  pub entries : count ≡ length (consts ms)
+
+-- a walk without the functions inside writes markers and constants
+pub record Flat (records : List ℕ) (o₀ : Outs) (ms : List Mark) (o : Outs) (at count : ℕ) : Type 0 where
+  pub wrote : Room o₀ ms → Wrote records o₀ ms o count
   pub place : at ≡ cap (length ms)
 
 -- a walk with them writes errors, as long as they are few
-abbrev pub Noted : List ℕ → List Error → List ℕ → Type 0
-Noted o₀ es o = length es < limit → o ≡ note o₀ es
+pub record Noted (o₀ : Outs) (es : List Error) (o : Outs) : Type 0 where
+  pub errors : length es < limit → o.code ≡ note o₀.code es
+  pub consts : o.consts ≡ o₀.consts
 
 -- the open loops' continue labels, innermost last; each break label is the one after
 unfoldable pub Stack : (ℕ → ℕ) → List Loop → Type 0
@@ -75,10 +85,9 @@ abbrev pub Met : ℕ → ℕ → ℕ → Type 0
 Met f p n = (f ≡ cap n) × (p ≡ bit (ltb limit n))
 
 -- a frame read by places stands for a state. Open loops' labels are said where they are written, and functions met where they are counted
-pub record Reads (c : Walk) (records o₀ : List ℕ) (A : State) (o : Outs) (ρ : ℕ → ℕ) : Type 0 where
-  pub flat : c.nest ≡ false → Flat o₀ (marksOf A) o.code (ρ MARKERS)
-  pub noted : c.nest ≡ true → Noted o₀ (side_of A).errors o.code
-  pub held : Holds records o.consts (consts (marksOf A))
+pub record Reads (c : Walk) (records : List ℕ) (o₀ : Outs) (A : State) (o : Outs) (ρ : ℕ → ℕ) : Type 0 where
+  pub flat : c.nest ≡ false → Flat records o₀ (marksOf A) o (ρ MARKERS) (ρ CONSTS)
+  pub noted : c.nest ≡ true → Noted o₀ (side_of A).errors o
   pub labels : ρ LABELS ≡ cap (labelsOf A)
   pub loops : c.nest ≡ false → Stack ρ (loops_of A)
   pub depth : ρ DEPTH ≡ length (loops_of A)
@@ -90,8 +99,8 @@ pub record Reads (c : Walk) (records o₀ : List ℕ) (A : State) (o : Outs) (ρ
   pub function : ρ FUNCTION ≡ cap c.function
   pub stack : code_in ρ ≡ c.code
 
--- the words o₀ having been there at the start, o and the frame w stand for the state A
-pub record Rep (c : Walk) (records o₀ : List ℕ) (A : State) (o : Outs) (w : List ℕ) : Type 0 where
+-- the words o₀ of the output having been there at the start, o and the frame w stand for the state A
+pub record Rep (c : Walk) (records : List ℕ) (o₀ : Outs) (A : State) (o : Outs) (w : List ℕ) : Type 0 where
   pub size : length w ≡ SIZE
   pub reads : Reads c records o₀ A o (at w)
 
@@ -110,11 +119,11 @@ pub record Scoped (e : Lent) : Type 0 where
 
 -- from the words o and w to o' and w' the state goes by f, whatever the notes
 pub record Moves (records : List ℕ) (o : Outs) (w : List ℕ) (o' : Outs) (w' : List ℕ) (f : Walk → State → State) : Type 0 where
-  pub moves : (c : Walk) (o₀ : List ℕ) (A : State) → Rep c records o₀ A o w → Rep c records o₀ (f c A) o' w'
+  pub moves : (c : Walk) (o₀ : Outs) (A : State) → Rep c records o₀ A o w → Rep c records o₀ (f c A) o' w'
 
 -- the same where the shared tables are right
 pub record Sim (e : Lent) (o : Outs) (w : List ℕ) (o' : Outs) (w' : List ℕ) (f : Walk → State → State) : Type 0 where
-  pub sim : Scoped e → (c : Walk) (o₀ : List ℕ) (A : State) → Rep c e.records o₀ A o w → Rep c e.records o₀ (f c A) o' w'
+  pub sim : Scoped e → (c : Walk) (o₀ : Outs) (A : State) → Rep c e.records o₀ A o w → Rep c e.records o₀ (f c A) o' w'
 
 -- the words x are those of an instruction that names no constant
 abbrev pub Shown : MarkerWords → Op → Type 0

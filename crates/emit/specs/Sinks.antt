@@ -3,14 +3,10 @@ use Rattle.std.specs.Prelude.{◌≡◌, Bool, true, false, cond, List, [], ◌�
 use Rattle.opcode.specs.declared.opcode.Words.{Words as MarkerWords}
 use Rattle.opcode.specs.declared.index.LabelId.{LabelId}
 use Rattle.opcode.specs.Words.{pair_of}
-use Rattle.tables.specs.declared.refusal.RunRule.TheVariants.{Constants}
-use Rattle.pool.specs.Value.{Const}
-use Rattle.pool.specs.Consts.{put3}
-use Rattle.pool.specs.Table.{Holds, added, held, constant}
+use Rattle.pool.specs.Value.{Const, find, intern}
+use Rattle.pool.specs.Consts.{put3, const_of, table, most, written}
 use Rattle.pool.specs.Names.{Access, local, global, upvalue, missing}
-use Rattle.pool.specs.declared.value.ConstValue.{ConstValue}
-use Rattle.pool.specs.declared.consts.Added.{Added}
-use Rattle.pool.specs.declared.consts.Added.TheVariants.{At, Full}
+use Rattle.pool.specs.declared.consts.ConstWords.{ConstWords}
 use Rattle.rules.specs.declared.StackCode.{StackCode}
 use Rattle.rules.specs.Step.{Use}
 use Rattle.rules.specs.Run.{local_code, global_code}
@@ -24,6 +20,7 @@ use Rattle.emit.specs.Words.{
   more,
   MARKERS,
   LABELS,
+  CONSTS,
   DEPTH,
   FLOW,
   WHY,
@@ -59,7 +56,7 @@ going w x = cond (goes (at w)) x w
 -- a run's first words
 abbrev pub beginning : StackCode → Bool → ℕ → List Write
 beginning sc nest r =
-    write MARKERS 0 ∷ write LABELS 0 ∷ write DEPTH 0 ∷ write FLOW 0 ∷ write ERRORS 0 ∷ write FUNCTIONS 0 ∷ write NEST (bit nest)
+    write MARKERS 0 ∷ write LABELS 0 ∷ write CONSTS 1 ∷ write DEPTH 0 ∷ write FLOW 0 ∷ write ERRORS 0 ∷ write FUNCTIONS 0 ∷ write NEST (bit nest)
     ∷ write FUNCTION (cap r) ∷ write STACK (code_of sc) ∷ write PAST 0 ∷ []
 
 -- get_label
@@ -90,15 +87,26 @@ pub record Pushes (o w o' w' : List ℕ) (x : MarkerWords) : Type 0 where
   pub code : o' ≡ cond (writes (at w)) (put2 o (at w MARKERS) x.code x.operand) o
   pub frame : w' ≡ cond (writes (at w)) (set w MARKERS (at w MARKERS + 1)) w
 
--- the constant that record q brings is named by the opcode x, or has no place: number 17
-abbrev pub Names : (o w o' w' : List ℕ) → ℕ → ℕ → Added → Type 0
-Names o w o' w' x q (At i) = Pushes o w o' w' (pair_of x i.0)
-Names o w o' w' x q Full = (o' ≡ o) × (w' ≡ stopped (Refused Constants q) w)
+-- add_const: the constant of three words in a table of n, its index, and how many there are then
+abbrev pub constant : List ℕ → ConstWords → Const
+constant recs v = const_of recs v.kind v.low v.high
 
--- push_load_const and the two that import, of whatever constants the table holds
-pub record Loads (recs o t w o' t' w' : List ℕ) (x q : ℕ) (v : ConstValue) : Type 0 where
-  pub table : (cs : List Const) → Holds recs t cs → Holds recs t' (cond (goes (at w)) (held cs (constant recs v)) cs)
-  pub names : (cs : List Const) → Holds recs t cs → Names o w o' w' x q (added cs (constant recs v))
+abbrev pub index_in : (recs cs : List ℕ) → ℕ → ConstWords → ℕ
+index_in recs cs n v = cap (find (table recs cs n) (constant recs v).value)
+
+abbrev pub count_in : (recs cs : List ℕ) → ℕ → ConstWords → ℕ
+count_in recs cs n v = cap (min (length (intern (table recs cs n) (constant recs v))) most)
+
+pub record Adds (recs cs w cs' w' : List ℕ) (v : ConstWords) (i : ℕ) : Type 0 where
+  pub index : i ≡ index_in recs cs (at w CONSTS) v
+  pub consts : cs' ≡ written recs cs (at w CONSTS) v.kind v.low v.high
+  pub frame : w' ≡ set w CONSTS (count_in recs cs (at w CONSTS) v)
+
+-- push_load_const and the two that import: the constant is added and named by the opcode x, where a marker is written
+pub record Loads (recs o cs w o' cs' w' : List ℕ) (x : ℕ) (v : ConstWords) : Type 0 where
+  pub consts : cs' ≡ cond (writes (at w)) (written recs cs (at w CONSTS) v.kind v.low v.high) cs
+  pub code : o' ≡ cond (writes (at w)) (put2 o (at w MARKERS) x (index_in recs cs (at w CONSTS) v)) o
+  pub frame : w' ≡ cond (writes (at w)) (put w (write CONSTS (count_in recs cs (at w CONSTS) v) ∷ write MARKERS (at w MARKERS + 1) ∷ [])) w
 
 -- load and store: a marker, or a refusal at record i; a store never comes to an upvalue
 abbrev pub Uses : (o w o' w' : List ℕ) → Use → ℕ → Access → Type 0

@@ -23,8 +23,8 @@ MARKERS = 0
 abbrev pub LABELS : ℕ
 LABELS = 1
 
-abbrev pub PAST : ℕ
-PAST = 2
+abbrev pub CONSTS : ℕ
+CONSTS = 2
 
 abbrev pub DEPTH : ℕ
 DEPTH = 3
@@ -55,6 +55,9 @@ FUNCTION = 11
 
 abbrev pub STACK : ℕ
 STACK = 12
+
+abbrev pub PAST : ℕ
+PAST = 13
 
 abbrev pub LOOPS : ℕ
 LOOPS = 16

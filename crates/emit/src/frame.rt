@@ -1,6 +1,6 @@
 // The frame of a run, the Rust's `self`: words of a lent array. No other file knows their places.
 ghost use Rattle.std.specs.Prelude.{◌≡◌, set};
-ghost use Rattle.emit.specs.Words.{cap, MARKERS, LABELS, DEPTH, ERRORS, FUNCTIONS, FUNCTION, PAST, at, put, goes, nests as nestsOf, flow_in, flow_words, code_of, code_in, bit as bit_of};
+ghost use Rattle.emit.specs.Words.{cap, MARKERS, LABELS, CONSTS, DEPTH, ERRORS, FUNCTIONS, FUNCTION, PAST, at, put, goes, nests as nestsOf, flow_in, flow_words, code_of, code_in, bit as bit_of};
 ghost use Rattle.emit.specs.Sinks.{beginning, loop_at, loop_set};
 
 use crate::word::{capped, wide};
@@ -12,13 +12,12 @@ pub const SIZE: usize = 144;
 
 pub type Frame = [u32; SIZE];
 
-// How many markers are written, labels taken.
+// How many markers are written, labels taken, constants held.
 const MARKERS: usize = 0;
 
 const LABELS: usize = 1;
 
-// 1 where more functions were met than a word can count.
-const PAST: usize = 2;
+const CONSTS: usize = 2;
 // How many loops are open.
 const DEPTH: usize = 3;
 // 0 going on, 1 cut by an error, 2 refused; the error's kind, start and end, or the rule's number and the record.
@@ -40,6 +39,8 @@ const FUNCTION: usize = 11;
 // The code of the stack's layout.
 const STACK: usize = 12;
 
+// 1 where more functions were met than a word can count.
+const PAST: usize = 13;
 // The continue labels of the open loops, the innermost last.
 const LOOPS: usize = 16;
 
@@ -67,6 +68,7 @@ pub fn begin(frame: &mut Frame, stack: StackCode, nest: bool, r: usize)
 {
     frame[MARKERS] = 0;
     frame[LABELS] = 0;
+    frame[CONSTS] = 1;
     frame[DEPTH] = 0;
     frame[FLOW] = 0;
     frame[ERRORS] = 0;
@@ -99,6 +101,18 @@ pub fn set_labels(frame: &mut Frame, n: u32)
     ensures { frame.new ≡ set frame.old LABELS n }
 {
     frame[LABELS] = n;
+}
+
+pub fn consts(frame: &Frame) -> u32
+    ensures { result ≡ at frame.now CONSTS }
+{
+    frame[CONSTS]
+}
+
+pub fn set_consts(frame: &mut Frame, n: u32)
+    ensures { frame.new ≡ set frame.old CONSTS n }
+{
+    frame[CONSTS] = n;
 }
 
 pub fn depth(frame: &Frame) -> u32

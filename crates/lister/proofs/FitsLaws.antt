@@ -17,8 +17,7 @@ use Rattle.pool.specs.NameWords.{over}
 use Rattle.pool.proofs.NameUpto.{start_more}
 use Rattle.pool.proofs.NamesLaws.{names_members}
 use Rattle.rules.specs.Run.{side, look}
-use Rattle.rules.specs.Constants.{consts}
-use Rattle.rules.specs.Out.{Out, out, Outcome, listed, refused, outcome, line_words, each_function}
+use Rattle.rules.specs.Out.{Out, out, Outcome, listed, refused, outcome, consts, line_words, each_function}
 use Rattle.codegen.specs.Walks.{stack_code, ran}
 use Rattle.codegen.specs.Call.{checked_of, past, answering, ran_of, answer_of, written_of, out_of, Sound}
 use Rattle.codegen.specs.Listing.{markers_of, constants_of, stream_of, met_of, first_of}

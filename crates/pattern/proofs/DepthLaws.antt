@@ -41,7 +41,7 @@ module _ (recs notes : List ℕ) {q d : ℕ} {s : CleanStack} where
 
   module _ {D m n l c₀ c i : ℕ} {s₁ s₂ : CleanStack} {code consts w w₁ : List ℕ} {o₂ : Outs} {w₂ code₃ consts₃ w₃ code₄ w₄ : List ℕ} (e₀ : c₀ ≡ first recs q)
       (em : m ≡ width (own_tree (forest recs c₀))) (eD : D ≡ more d) (deep : Deepens w w₁ s s₁ D) (el : l ≡ cap (s₁.first.0 + D))
-      (test : WithLabel recs (outs code consts) w₁ o₂ w₂ l (λ r y. table_run r y q (words recs q) n)) where
+      (test : (p : ℕ) → WithLabel recs (outs code consts) w₁ o₂ w₂ l (λ r y. table_run r y p (words recs q) n)) where
     pub table_visits : n ≡ cap (m / 2) → Turn recs notes key q D o₂ w₂ c₀ s₁ (outs code₃ consts₃) w₃ c i s₂ → c ≡ 0 → Pushes code₃ w₃ code₄ w₄ (pair_of 0 0)
         → VisitsNested recs notes (outs code consts) w (outs code₄ consts₃) w₄ 37 q d s s₂
     table_visits en t ec pop =
@@ -93,7 +93,7 @@ module _ (recs notes : List ℕ) {q d : ℕ} {s : CleanStack} where
         }
 
     pub visit_lit : {o o' : Outs} {w w' : List ℕ} → (word recs q 0 ≡ 37 → ⊥) → (word recs q 0 ≡ 38 → ⊥) → (word recs q 0 ≡ 36 → ⊥)
-        → WithLabel recs o w o' w' l (λ r y. lit_run r y q (words recs q)) → VisitsPattern recs notes o w o' w' q d s s
+        → ((p : ℕ) → WithLabel recs o w o' w' l (λ r y. lit_run r y p (words recs q))) → VisitsPattern recs notes o w o' w' q d s s
     unfolding pattern_run
     visit_lit n₁ n₂ n₃ test =
         let no : is_nested (words recs q) ≡ false = nested_other (word recs q 0) n₁ n₂ in
@@ -102,7 +102,7 @@ module _ (recs notes : List ℕ) {q d : ℕ} {s : CleanStack} where
           taken = λ f. none_inside recs d s.taken q nq no;
           visits = λ f r x e. resim (λ v sc A.
               first_some recs notes r x d s.taken q A nq ∙ on_false (is_nested (words recs q)) _ _ no ∙ on_false (is_kind 36 (words recs q)) _ _ (ne_eqb _ 36 n₃))
-              (moves_sim (test.moves r (x + d) (el ∙ cap_after s.first.0 d x e)));
+              (moves_sim ((test q).moves r (x + d) (el ∙ cap_after s.first.0 d x e)));
         }
 
 -- ---- the measure: twice the records left, and one less for a Table's or List's visit of its children

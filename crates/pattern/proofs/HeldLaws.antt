@@ -7,17 +7,14 @@ use Prim.Native.Nat.{ℕ, suc, ◌+◌, ◌<◌}
 use native.Mathlib.Omega.{arith}
 use native.Mathlib.Decide.{ℕ_discrete}
 use lib.ListN.{length, get_or, length-append}
-use Rattle.tables.specs.declared.refusal.RunRule.TheVariants.{Constants}
-use Rattle.pool.specs.Value.{Value}
 use Rattle.pool.specs.Names.{Access, local, global, upvalue, missing}
 use Rattle.rules.specs.declared.Flow.TheVariants.{Go}
-use Rattle.rules.specs.Marker.{ConstOp, Mark}
+use Rattle.rules.specs.Marker.{Mark}
 use Rattle.rules.specs.Step.{Set, Step}
-use Rattle.rules.specs.Run.{State, flow, labels, emit, bring, bump, sought}
-use Rattle.rules.proofs.Bring.{bring_cases}
+use Rattle.rules.specs.Run.{State, flow, labels, emit, bump, sought}
 use Rattle.emit.specs.Rep.{Walk, Lent}
 use Rattle.emit.specs.Does.{doing}
-use Rattle.emit.proofs.Basics.{is_go, bool_or, is_go_lem, Rests, no_emit, no_bring, no_bump, no_halt}
+use Rattle.emit.proofs.Basics.{is_go, bool_or, is_go_lem, Rests, no_emit, no_bump, no_halt}
 use Rattle.plain.proofs.GoLaws.{emit_labels, sought_labels, bump_labels, env_kept, env_new}
 
 -- ---- lists that grow at their end
@@ -40,12 +37,6 @@ quiet_none = record { rests = λ A e. refl; same = λ A. refl }
 
 pub quiet_emit : (x : Mark) → Quiet (emit x)
 quiet_emit x = record { rests = no_emit x; same = emit_labels x }
-
-pub quiet_bring : (r : ℕ) (c : ConstOp) (v : Value) → Quiet (bring r c v)
-quiet_bring r c v = record {
-  rests = no_bring r c v;
-  same = λ A. bring_cases (λ B. labels B ≡ labels A) r c v A (sought_labels r Set r (missing Constants) A) (emit_labels _ A);
-}
 
 pub quiet_sought : (r i : ℕ) (x : Access) → Quiet (sought r Set i x)
 quiet_sought r i x = record { rests = go x; same = sought_labels r Set i x }
@@ -163,6 +154,9 @@ module _ {e : Lent} {c : Walk} {r : ℕ} where
   from_holds q p = record { past = from_goes q p.past; held = p.held }
 
   -- the same state, and the same number of labels, by another name
+  pub to_goes : {from : List Step → List Step} {env : List ℕ} {A B B' : State} → B' ≡ B → Goes e c r from env A B → Goes e c r from env A B'
+  to_goes {from} {env} {A} q p = subst (λ (z : State). Goes e c r from env A z) (sym q) p
+
   pub to_holds : {from : List Step → List Step} {env : List ℕ} {A B B' : State} {m h h' x : ℕ} → B' ≡ B → h' ≡ h → Holds e c r from env A B m h x
       → Holds e c r from env A B' m h' x
   to_holds {from} {env} {A} {B' = B'} {m} {h} {h'} {x} q z p =

@@ -12,11 +12,11 @@ use Rattle.tables.proofs.ForestLaws.{forest_absent, forest_record}
 use Rattle.rules.specs.declared.Flow.{Flow}
 use Rattle.rules.specs.declared.Flow.TheVariants.{Go, Cut, Refused}
 use Rattle.pool.specs.Value.{Null}
-use Rattle.rules.specs.Marker.{Jump, LoadConst, Pop, Swap, Label, To, Do, mark}
+use Rattle.rules.specs.Marker.{Jump, LoadConst, Pop, Swap, Label, To, Load, Do, mark}
 use Rattle.rules.specs.Step.{Role, Expr, Step, push_op, get_label, place, jump, null, get_labels, width}
 use Rattle.rules.specs.Arms.{bodies}
 use Rattle.rules.specs.Patterns.{cases_tests, match_cases, match_steps}
-use Rattle.rules.specs.Run.{State, flow, labels, emit, bring, bump, exec}
+use Rattle.rules.specs.Run.{State, flow, labels, emit, bump, exec}
 use Rattle.rules.proofs.Sticky.{Ended, Sticky, exec_sticky, visits_sticky}
 use Rattle.emit.specs.Rep.{Walk, mode, Lent}
 use Rattle.emit.specs.Does.{noted_look, own_stream, near, doing, does}
@@ -121,7 +121,7 @@ module _ (e : Lent) (c : Walk) (r : ℕ) where
   unfolding doing exec
   after_same n env env' A e₀ named =
       let last : List Step = place 0 ∷ push_op Swap 2 ∷ push_op Pop 0 ∷ [] in
-      let B : ℕ → State = λ y. emit (mark r (To Jump y)) (bring r LoadConst Null A) in
+      let B : ℕ → State = λ y. emit (mark r (To Jump y)) (emit (mark r (Load LoadConst Null)) A) in
       ap (λ (y : ℕ). doing e c r (bodies 1 1 n last) env (B y)) e₀
       ∙ bodies_same n 1 1 last env env' e₀ named (λ C. ap (λ (y : ℕ). emit (mark r (Do Pop 0)) (emit (mark r (Do Swap 2)) (emit (mark r (Label y)) C))) e₀) (B (get_or env' 0 0))
 

@@ -57,7 +57,6 @@ use Rattle.pattern.proofs.HeldLaws.{
   Quiet,
   quiet_none,
   quiet_emit,
-  quiet_bring,
   quiet_sought,
   quiet_row,
   quiet_either,
@@ -132,7 +131,7 @@ own_labels d h w k = go (is_nested w) refl
 -- ---- the pieces take no label
 
 quiet_item : (r q : ℕ) (v : Value) → Quiet (item_run r q v)
-quiet_item r q v = quiet_row (quiet_row (quiet_emit _) (quiet_bring q _ v)) (quiet_emit _)
+quiet_item r q v = quiet_row (quiet_row (quiet_emit _) (quiet_emit _)) (quiet_emit _)
 
 quiet_lead : (r : ℕ) (a : Part) (q i l : ℕ) (w : Words) → Quiet (lead_run r a q i l w)
 quiet_lead r item q i l w = quiet_item r q _
@@ -143,13 +142,13 @@ quiet_type : (r y : ℕ) → Quiet (type_run r y)
 quiet_type r y = quiet_row (quiet_row (quiet_emit _) (quiet_emit _)) (quiet_emit _)
 
 quiet_length : (r y q n : ℕ) → Quiet (length_run r y q n)
-quiet_length r y q n = quiet_row (quiet_row (quiet_row (quiet_row (quiet_emit _) (quiet_emit _)) (quiet_bring q _ _)) (quiet_emit _)) (quiet_emit _)
+quiet_length r y q n = quiet_row (quiet_row (quiet_row (quiet_row (quiet_emit _) (quiet_emit _)) (quiet_emit _)) (quiet_emit _)) (quiet_emit _)
 
 quiet_table : (r y q : ℕ) (w : Words) (n : ℕ) → Quiet (table_run r y q w n)
 quiet_table r y q w n = quiet_either (eqb w.detail 1) (quiet_type r y) (quiet_row (quiet_type r y) (quiet_length r y q n))
 
 quiet_lit : (r y q : ℕ) (w : Words) → Quiet (lit_run r y q w)
-quiet_lit r y q w = quiet_row (quiet_row (quiet_bring q _ _) (quiet_emit _)) (quiet_emit _)
+quiet_lit r y q w = quiet_row (quiet_row (quiet_emit _) (quiet_emit _)) (quiet_emit _)
 
 quiet_ident : (notes : List ℕ) (r y q : ℕ) → Quiet (ident_run notes r y q)
 quiet_ident notes r y q = quiet_row (quiet_emit (mark r (To JumpPopIfNull y))) (quiet_sought r q (store_noted notes q))

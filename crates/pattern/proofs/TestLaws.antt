@@ -68,6 +68,7 @@ module _ (recs notes : List ℕ) where
     pub range : i ≤ n
     pub link : Onward recs q p
     pub code : length o.code ≡ length o₀.code
+    pub consts : length o.consts ≡ length o₀.consts
     pub work : (q ≡ 0 → ⊥) → (r y : ℕ) → l ≡ cap y → (o' : Outs) (w' : List ℕ) → Sim (lent recs notes) o w o' w' (λ v. case_run notes r y (n - i) (forest recs p))
         → Sim (lent recs notes) o₀ w₀ o' w' (λ v. case_run notes r y n (forest recs p₀))
 
@@ -110,17 +111,19 @@ module _ (recs notes : List ℕ) where
           range = omega arith;
           link = child_onward q p₀ e;
           code = refl;
+          consts = refl;
           work = λ ne r y z o' w' h. resim (λ v sc A. ap (λ (k : ℕ). case_run notes r y k (forest recs p₀) A) (let k : n ≡ n - 0 = omega arith in k)) h;
         }
 
     module _ {code₀ consts₀ w₀ code consts w : List ℕ} {p i : ℕ} (t : CaseTurn q l n (outs code₀ consts₀) w₀ p₀ (outs code consts) w p i) where
       pub case_again : {code₁ consts₁ w₁ : List ℕ} {x j : ℕ} → i < n → (p ≡ 0 → ⊥) → TestsPattern recs notes code consts w code₁ consts₁ w₁ p l → x ≡ next recs p → j ≡ i + 1
-          → length code₁ ≡ length code → CaseTurn q l n (outs code₀ consts₀) w₀ p₀ (outs code₁ consts₁) w₁ x j
-      case_again {x = x} {j = j} lt np k ex ej lc =
+          → length code₁ ≡ length code → length consts₁ ≡ length consts → CaseTurn q l n (outs code₀ consts₀) w₀ p₀ (outs code₁ consts₁) w₁ x j
+      case_again {x = x} {j = j} lt np k ex ej lc ls =
           record {
             range = omega arith;
             link = onward_next recs q p x t.link np ex;
             code = lc ∙ t.code;
+            consts = ls ∙ t.consts;
             work = λ ne r y e o' w' h.
                 let b = inside ne t.link in
                 t.work ne r y e o' w' (resim (λ v sc A.
@@ -154,6 +157,7 @@ module _ (recs notes : List ℕ) where
   pub record CasesTurn (l₀ : ℕ) (o₀ : Outs) (w₀ : List ℕ) (c₀ : ℕ) (o : Outs) (w : List ℕ) (c l : ℕ) : Type 0 where
     pub turn : ℕ
     pub code : length o.code ≡ length o₀.code
+    pub consts : length o.consts ≡ length o₀.consts
     pub label : (base : ℕ) → l₀ ≡ cap base → l ≡ cap (base + turn)
     pub work : (r base : ℕ) → l₀ ≡ cap base → (o' : Outs) (w' : List ℕ) → Sim (lent recs notes) o w o' w' (λ v. cases_run notes r (base + turn) (forest recs c))
         → Sim (lent recs notes) o₀ w₀ o' w' (λ v. cases_run notes r base (forest recs c₀))
@@ -174,17 +178,19 @@ module _ (recs notes : List ℕ) where
       record {
         turn = 0;
         code = refl;
+        consts = refl;
         label = λ base e. e ∙ ap cap (let z : base ≡ base + 0 = omega arith in z);
         work = λ r base e o' w' h. resim (λ v sc A. ap (λ (y : ℕ). cases_run notes r y (forest recs c) A) (let z : base ≡ base + 0 = omega arith in z)) h;
       }
 
   module _ {l₀ c₀ c l : ℕ} {code₀ consts₀ w₀ code consts w : List ℕ} (t : CasesTurn l₀ (outs code₀ consts₀) w₀ c₀ (outs code consts) w c l) where
     pub cases_again : {code₁ consts₁ w₁ : List ℕ} {x m : ℕ} → (c ≡ 0 → ⊥) → TestsCase recs notes code consts w code₁ consts₁ w₁ c l → x ≡ next recs c → m ≡ more l
-        → length code₁ ≡ length code → CasesTurn l₀ (outs code₀ consts₀) w₀ c₀ (outs code₁ consts₁) w₁ x m
-    cases_again {x = x} ne k ex em lc =
+        → length code₁ ≡ length code → length consts₁ ≡ length consts → CasesTurn l₀ (outs code₀ consts₀) w₀ c₀ (outs code₁ consts₁) w₁ x m
+    cases_again {x = x} ne k ex em lc ls =
         record {
           turn = suc t.turn;
           code = lc ∙ t.code;
+          consts = ls ∙ t.consts;
           label = λ base e. em ∙ ap more (t.label base e) ∙ more_cap (base + t.turn) ∙ ap cap (let z : suc (base + t.turn) ≡ base + suc t.turn = omega arith in z);
           work = λ r base e o' w' h.
               let y = base + t.turn in

@@ -155,6 +155,7 @@ pub record Turn (recs notes : List ℕ) (a : Part) (q d : ℕ) (o₀ : Outs) (w�
   pub fall : rank recs c ≤ rank recs c₀
   pub few : (c ≡ 0 → ⊥) → i < c
   pub code : length o.code ≡ length o₀.code
+  pub consts : length o.consts ≡ length o₀.consts
   pub taken : Fits recs d q → labels_after a d s₀.taken (own_tree (forest recs c₀)) ≡ labels_after a d s.taken (own_tree (forest recs c))
   pub work : Fits recs d q → (r x : ℕ) → s₀.first.0 ≡ cap x → (o' : Outs) (w' : List ℕ)
       → Sim (lent recs notes) o w o' w' (λ v. inside_run notes r a x d s.taken q i (forest recs c))
@@ -210,22 +211,24 @@ module _ (recs notes : List ℕ) {q d : ℕ} where
         fall = omega arith;
         few = λ ne. omega (arith, ne);
         code = refl;
+        consts = refl;
         taken = λ f. refl;
         work = λ f r x z o' w' h. h;
       }
 
   module _ {o₀ o o₁ o₂ : Outs} {w₀ w w₁ w₂ : List ℕ} {c₀ c x i : ℕ} {s₀ s s' : CleanStack} where
     -- one item of a List
-    pub turn_item : {j : ℕ} → Turn recs notes item q d o₀ w₀ c₀ s₀ o w c i s → (c ≡ 0 → ⊥) → GetsItem recs o w o₁ w₁ q (int i) → VisitsPattern recs notes o₁ w₁ o₂ w₂ c d s s'
-        → x ≡ next recs c → j ≡ more i → length o₂.code ≡ length o.code
+    pub turn_item : {j : ℕ} → Turn recs notes item q d o₀ w₀ c₀ s₀ o w c i s → (c ≡ 0 → ⊥) → GetsItem recs o w o₁ w₁ (int i) → VisitsPattern recs notes o₁ w₁ o₂ w₂ c d s s'
+        → x ≡ next recs c → j ≡ more i → length o₂.code ≡ length o.code → length o₂.consts ≡ length o.consts
         → Turn recs notes item q d o₀ w₀ c₀ s₀ o₂ w₂ x j s'
-    turn_item {j} t ne g k ex ej lc =
+    turn_item {j} t ne g k ex ej lc ls =
         record {
           first = k.first ∙ t.first;
           link = onward_next recs q c x t.link ne ex;
           fall = omega (arith, rank_next recs c x ex, t.fall);
           few = rises recs c x i j ne ex (t.few ne) (omega (arith, ej, more_least i));
           code = lc ∙ t.code;
+          consts = ls ∙ t.consts;
           taken = λ f.
               let h = k.taken (child_deep recs d q c t.link f) in
               t.taken f ∙ item_after recs d s.taken c ne
@@ -236,14 +239,14 @@ module _ (recs notes : List ℕ) {q d : ℕ} where
               t.work f r y e o' w' (resim (λ v sc A.
               item_turn recs notes r y d s.taken q i c A ne
               ∙ same_inside recs notes item r y d q _ (sym (k.taken deep)) (sym (one_more recs q c i j t.link ne f.0 (t.few ne) ej)) (sym ex))
-              (then (then (moves_sim (g.moves r)) tested) z));
+              (then (then (moves_sim (g.moves r q)) tested) z));
         }
 
     -- one pair of a Table; the last may lack its pattern
-    pub turn_pair : {l : ℕ} → Turn recs notes key q d o₀ w₀ c₀ s₀ o w c i s → (c ≡ 0 → ⊥) → l ≡ next recs c → GetsItem recs o w o₁ w₁ c (lit_of (words recs c))
-        → VisitsPattern recs notes o₁ w₁ o₂ w₂ l d s s' → x ≡ next recs l → length o₂.code ≡ length o.code
+    pub turn_pair : {l : ℕ} → Turn recs notes key q d o₀ w₀ c₀ s₀ o w c i s → (c ≡ 0 → ⊥) → l ≡ next recs c → GetsItem recs o w o₁ w₁ (lit_of (words recs c))
+        → VisitsPattern recs notes o₁ w₁ o₂ w₂ l d s s' → x ≡ next recs l → length o₂.code ≡ length o.code → length o₂.consts ≡ length o.consts
         → Turn recs notes key q d o₀ w₀ c₀ s₀ o₂ w₂ x (suc (suc i)) s'
-    turn_pair {l} t ne el g k ex lc =
+    turn_pair {l} t ne el g k ex lc ls =
         let at : Onward recs q l = onward_next recs q c l t.link ne el in
         record {
           first = k.first ∙ t.first;
@@ -251,6 +254,7 @@ module _ (recs notes : List ℕ) {q d : ℕ} where
           fall = omega (arith, rank_next recs c l el, rank_next recs l x ex, t.fall);
           few = twice recs c l x i ne el ex (t.few ne);
           code = lc ∙ t.code;
+          consts = ls ∙ t.consts;
           taken = λ f.
               let h = k.taken (child_deep recs d q l at f) in
               t.taken f ∙ key_after recs d s.taken c ne ∙ ap (λ (y : ℕ). labels_after value d s.taken (own_tree (forest recs y))) (sym el)
@@ -263,7 +267,7 @@ module _ (recs notes : List ℕ) {q d : ℕ} where
               ∙ ap (λ (n : ℕ). inside_run notes r value y d s.taken q (suc i) (forest recs n) (item_run r c (lit_of (words recs c)) A)) (sym el)
               ∙ value_turn recs notes r y d s.taken q (suc i) l (item_run r c (lit_of (words recs c)) A)
               ∙ same_inside recs notes key r y d q _ (sym (k.taken deep)) refl (sym ex))
-              (then (then (moves_sim (g.moves r)) tested) z));
+              (then (then (moves_sim (g.moves r c)) tested) z));
         }
 
 -- ---- a Table or List: its label, its tests, its children and a Pop
@@ -309,7 +313,7 @@ nested_run recs notes r x d h q n g D c a A nq en ea es eg eD ec =
 module _ (recs notes : List ℕ) {q d D n l c₀ c i : ℕ} {s s₁ s₂ : CleanStack} {code consts w w₁ : List ℕ} {o₂ : Outs} {w₂ code₃ consts₃ w₃ code₄ w₄ : List ℕ} where
   pub nested_visits : (a : Part) → (q ≡ 0 → ⊥) → parts (words recs q) ≡ a → is_nested (words recs q) ≡ true → c₀ ≡ first recs q
       → n ≡ cap (pattern_size (words recs q) (own_tree (children recs q))) → D ≡ more d → Deepens w w₁ s s₁ D → l ≡ cap (s₁.first.0 + D)
-      → WithLabel recs (outs code consts) w₁ o₂ w₂ l (λ r y. table_run r y q (words recs q) n) → Turn recs notes a q D o₂ w₂ c₀ s₁ (outs code₃ consts₃) w₃ c i s₂
+      → ((p : ℕ) → WithLabel recs (outs code consts) w₁ o₂ w₂ l (λ r y. table_run r y p (words recs q) n)) → Turn recs notes a q D o₂ w₂ c₀ s₁ (outs code₃ consts₃) w₃ c i s₂
       → c ≡ 0 → Pushes code₃ w₃ code₄ w₄ (pair_of 0 0) → VisitsPattern recs notes (outs code consts) w (outs code₄ consts₃) w₄ q d s s₂
   nested_visits a nq ea en e₀ es eD deep el test t ec pop =
       record {
@@ -330,7 +334,7 @@ module _ (recs notes : List ℕ) {q d D n l c₀ c i : ℕ} {s s₁ s₂ : Clean
             let closed : Sim (lent recs notes) (outs code₃ consts₃) w₃ (outs code₄ consts₃) w₄ (λ v. emit (mark r (Do Pop 0)))
             = record { sim = λ z v o A h. said r Pop 0 refl refl pop h } in
             resim (λ v z A. nested_run recs notes r x d s.taken q n s₁.taken D c₀ a A nq en ea (count f.0) (labels f) (depth f) e₀)
-            (then (then (then opened (moves_sim (test.moves r (x + suc d) label))) inside) closed);
+            (then (then (then opened (moves_sim ((test q).moves r (x + suc d) label))) inside) closed);
       }
     where
       some : (q : ℕ) → (q ≡ 0 → ⊥) → labels_visited d s.taken (words recs q) (children recs q) ≡ first_labels d s.taken (forest recs q)

@@ -5,10 +5,10 @@ use Rattle.tables.specs.Record.{Words, is_kind, is_function}
 use Rattle.tables.specs.Forest.{Forest, none, tree, own_tree}
 use Rattle.pool.specs.Value.{Value, lit, int}
 use Rattle.pool.specs.Notes.{store_noted}
-use Rattle.rules.specs.Marker.{Jump, PopJumpIfFalse, JumpPopIfNull, LoadConst, Pop, Copy, Eq, TypeCheck, GetLen, Label, To, Do, mark}
+use Rattle.rules.specs.Marker.{Jump, PopJumpIfFalse, JumpPopIfNull, LoadConst, Pop, Copy, Eq, TypeCheck, GetLen, Label, To, Load, Do, mark}
 use Rattle.rules.specs.Step.{Set}
 use Rattle.rules.specs.Patterns.{Part, item, key, value, parts, next_part, is_pattern_part, is_nested, grown, labels_after, pattern_size}
-use Rattle.rules.specs.Run.{State, labels, emit, bring, bump, sought}
+use Rattle.rules.specs.Run.{State, labels, emit, bump, sought}
 use Rattle.plain.specs.Runs.{item_run}
 
 -- the value of a Lit pattern or key: "35 Lit, 36 Ident, worded as 1 and 2"
@@ -46,7 +46,7 @@ module _ (r : ℕ) where
 
   abbrev pub length_run : ℕ → ℕ → ℕ → State → State
   length_run y q n A =
-      emit (mark r (To PopJumpIfFalse y)) (emit (mark r (Do Eq 0)) (bring q LoadConst (int n)
+      emit (mark r (To PopJumpIfFalse y)) (emit (mark r (Do Eq 0)) (emit (mark q (Load LoadConst (int n)))
       (emit (mark r (Do GetLen 0)) (emit (mark r (Do Copy 1)) A))))
 
   abbrev pub table_run : ℕ → ℕ → Words → ℕ → State → State
@@ -54,7 +54,7 @@ module _ (r : ℕ) where
 
   -- PatternKind::Lit
   abbrev pub lit_run : ℕ → ℕ → Words → State → State
-  lit_run y q w A = emit (mark r (To PopJumpIfFalse y)) (emit (mark r (Do Eq 0)) (bring q LoadConst (lit_of w) A))
+  lit_run y q w A = emit (mark r (To PopJumpIfFalse y)) (emit (mark r (Do Eq 0)) (emit (mark q (Load LoadConst (lit_of w))) A))
 
   -- the clean-up labels, n behind the first, from the last on, with a Pop between two
   unfoldable pub cleanup_run : ℕ → ℕ → State → State

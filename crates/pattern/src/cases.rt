@@ -8,7 +8,6 @@ use emit::label::next_label;
 use emit::op::{push_copy, push_jump, push_pop};
 use opcode::index::LabelId;
 use plain::children::first_child;
-use pool::consts::Consts;
 use pool::notes::Notes;
 use tables::ast::{next, p};
 
@@ -17,7 +16,7 @@ fn test(
     recs: &[u32],
     notes: &Notes,
     code: &mut [u32],
-    consts: &mut Consts,
+    consts: &mut [u32],
     frame: &mut Frame,
     pattern: usize,
     block_label: LabelId,
@@ -38,7 +37,7 @@ fn case_patterns(
     recs: &[u32],
     notes: &Notes,
     code: &mut [u32],
-    consts: &mut Consts,
+    consts: &mut [u32],
     frame: &mut Frame,
     case: usize,
     block_label: LabelId,
@@ -64,7 +63,7 @@ pub fn patterns(
     recs: &[u32],
     notes: &Notes,
     code: &mut [u32],
-    consts: &mut Consts,
+    consts: &mut [u32],
     frame: &mut Frame,
     cases: usize,
     block_label: LabelId,

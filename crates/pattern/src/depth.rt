@@ -9,7 +9,6 @@ use emit::op::push_pop;
 use emit::word::{capped, inc};
 use plain::item::{push_item, push_value};
 use plain::siblings::width;
-use pool::consts::Consts;
 use pool::notes::Notes;
 use tables::ast::{first, kind, next};
 use tables::kind;
@@ -19,7 +18,7 @@ pub fn visit_pattern_depth(
     recs: &[u32],
     notes: &Notes,
     code: &mut [u32],
-    consts: &mut Consts,
+    consts: &mut [u32],
     frame: &mut Frame,
     pattern: usize,
     depth: u32,
@@ -52,7 +51,7 @@ fn table(
     recs: &[u32],
     notes: &Notes,
     code: &mut [u32],
-    consts: &mut Consts,
+    consts: &mut [u32],
     frame: &mut Frame,
     pattern: usize,
     depth: u32,
@@ -83,7 +82,7 @@ fn list(
     recs: &[u32],
     notes: &Notes,
     code: &mut [u32],
-    consts: &mut Consts,
+    consts: &mut [u32],
     frame: &mut Frame,
     pattern: usize,
     depth: u32,
@@ -100,7 +99,7 @@ fn list(
     push_table_test(recs, code, consts, frame, pattern, items, clean_stack_label);
     let mut i: u32 = 0;
     while item != 0 {
-        push_item(recs, code, consts, frame, i, pattern);
+        push_item(recs, code, consts, frame, i);
         taken = visit_pattern_depth(recs, notes, code, consts, frame, item, inside, taken);
         item = next(recs, item);
         i = inc(i);

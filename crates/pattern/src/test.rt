@@ -13,7 +13,6 @@ use emit::op::{
     push_type_check,
 };
 use opcode::index::LabelId;
-use pool::consts::Consts;
 use pool::notes::Notes;
 use pool::value::ConstValue;
 use tables::ast::detail;
@@ -26,13 +25,13 @@ const TABLE: u32 = 6;
 pub fn lit(
     recs: &[u32],
     code: &mut [u32],
-    consts: &mut Consts,
+    consts: &mut [u32],
     frame: &mut Frame,
     pattern: usize,
     next_pattern_label: LabelId,
 )
-    ensures { WithLabel recs.now (outs code.old consts.old) frame.old
-        (outs code.new consts.new) frame.new next_pattern_label.0 (λ r y. lit_run r y pattern (words recs.now pattern)) }
+    ensures { (q : ℕ) → WithLabel recs.now (outs code.old consts.old) frame.old
+        (outs code.new consts.new) frame.new next_pattern_label.0 (λ r y. lit_run r y q (words recs.now pattern)) }
 {
     push_lit(recs, code, consts, frame, pattern);
     push_eq(code, frame);
@@ -58,14 +57,14 @@ pub fn ident(
 pub fn push_table_test(
     recs: &[u32],
     code: &mut [u32],
-    consts: &mut Consts,
+    consts: &mut [u32],
     frame: &mut Frame,
     pattern: usize,
     n: u32,
     clean_stack_label: LabelId,
 )
-    ensures { WithLabel recs.now (outs code.old consts.old) frame.old
-        (outs code.new consts.new) frame.new clean_stack_label.0 (λ r y. table_run r y pattern (words recs.now pattern) n) }
+    ensures { (q : ℕ) → WithLabel recs.now (outs code.old consts.old) frame.old
+        (outs code.new consts.new) frame.new clean_stack_label.0 (λ r y. table_run r y q (words recs.now pattern) n) }
 {
     push_copy(code, frame, 1);
     push_type_check(code, frame, TABLE);
@@ -75,7 +74,7 @@ pub fn push_table_test(
     }
     push_copy(code, frame, 1);
     push_get_len(code, frame);
-    push_load_const(recs, code, consts, frame, ConstValue::Int(n, 0), pattern);
+    push_load_const(recs, code, consts, frame, ConstValue::Int(n, 0));
     push_eq(code, frame);
     push_pop_jump_if_false(code, frame, clean_stack_label)
 }

@@ -16,16 +16,16 @@ use Rattle.tables.specs.declared.refusal.RunRule.TheVariants.{Path}
 use Rattle.tables.proofs.ForestLaws.{forest_absent, forest_record, next_zero}
 use Rattle.pool.specs.Value.{Null, child as words-at, below}
 use Rattle.rules.specs.declared.Flow.TheVariants.{Cut, Refused}
-use Rattle.rules.specs.Marker.{Way, LoadConst, Swap, Code, Do, mark}
+use Rattle.rules.specs.Marker.{Way, LoadConst, Swap, Load, Code, Do, Mark, mark}
 use Rattle.rules.specs.Step.{After, Set, Step, push_op, access, width}
 use Rattle.rules.specs.Arms.{arguments, handlers, is_method, set_code, simple_import, after_steps}
 use Rattle.rules.specs.Kinds.{steps}
-use Rattle.rules.specs.Run.{Loop, State, loops, emit, bring, halt, way_kind, way_out, outward, exec}
+use Rattle.rules.specs.Run.{Loop, State, loops, emit, halt, way_kind, way_out, outward, exec}
 use Rattle.emit.specs.Words.{cap, more, DEPTH, at}
 use Rattle.emit.specs.Sinks.{stopped, loop_at, continue_of, break_of}
 use Rattle.emit.specs.Rep.{Outs, Walk, Rep, Lent}
 use Rattle.emit.specs.Does.{nth, child, visit_in, doing, does}
-use Rattle.emit.proofs.Basics.{on_true, on_false, no_bring}
+use Rattle.emit.proofs.Basics.{on_true, on_false, no_emit}
 use Rattle.emit.specs.declared.loops.LabelLookup.TheVariants.{Found, Absent}
 use Rattle.emit.proofs.RepLaws.{given}
 use Rattle.emit.proofs.LeaveLaws.{left_none}
@@ -93,9 +93,9 @@ module _ (e : Lent) (c : Walk) (r : ℕ) where
 
   -- ---- an Import's Simple form: where the path is empty, the Null behind it is not pushed
 
-  pub simple_part : (n : ℕ) (A : State) → does e c r (simple_import (words R r) n) A ≡ bring r LoadConst Null (does e c r (simple_store (words R r) n) A)
+  pub simple_part : (n : ℕ) (A : State) → does e c r (simple_import (words R r) n) A ≡ emit (mark r (Load LoadConst Null)) (does e c r (simple_store (words R r) n) A)
   unfolding does doing exec
-  simple_part zero A = sym (no_bring r LoadConst Null _ (halt_not (Refused Path r) A refl))
+  simple_part zero A = sym (no_emit _ _ (halt_not (Refused Path r) A refl))
   simple_part (suc n) A = refl
 
   pub simple_none : (n : ℕ) → n ≡ 0 → (A : State) → does e c r (simple_store (words R r) n) A ≡ halt (Refused Path r) A
@@ -176,10 +176,10 @@ module _ (w : List ℕ) (l : LabelId) (e : break_of w ≡ Found l) where
       by false k z = (refl, cc)
 
 -- what ends the run keeps the Null behind it from being pushed
-pub cut_off : {c : Walk} {records o₀ : List ℕ} {o : Outs} {A : State} (w : List ℕ) {w' : List ℕ} (r : ℕ) (p : Words) (y : Way) → continue_of w ≡ Absent
-    → w' ≡ stopped (Cut (way_kind y) p.start p.end) w → Rep c records o₀ A o w → Rep c records o₀ (bring r LoadConst Null (outward r p y A)) o w'
+pub cut_off : {c : Walk} {records : List ℕ} {o₀ o : Outs} {A : State} (w : List ℕ) {w' : List ℕ} (r : ℕ) (p : Words) (y : Way) (m : Mark) → continue_of w ≡ Absent
+    → w' ≡ stopped (Cut (way_kind y) p.start p.end) w → Rep c records o₀ A o w → Rep c records o₀ (emit m (outward r p y A)) o w'
 unfolding outward
-cut_off {A = A} w r p y e k h = given (by (loops A) (sym h.reads.depth ∙ no_depth e)) (left_none r p y (sym e) refl k h)
+cut_off {A = A} w r p y m e k h = given (by (loops A) (sym h.reads.depth ∙ no_depth e)) (left_none r p y (sym e) refl k h)
   where
     no_depth : continue_of w ≡ Absent → at w DEPTH ≡ 0
     no_depth q = go (eqb (at w DEPTH) 0) (record { 0 = loop_at w (at w DEPTH - 1) }) refl q
@@ -188,6 +188,6 @@ cut_off {A = A} w r p y e k h = given (by (loops A) (sym h.reads.depth ∙ no_de
         go true l z u = eqb-true _ _ z
         go false l z u = absurd (let v : ◌≡◌ {A = ℕ} 0 1 = cc in omega arith)
 
-    by : (ls : List Loop) → length ls ≡ 0 → bring r LoadConst Null (way_out r p y ls A) ≡ way_out r p y ls A
-    by [] z = no_bring r LoadConst Null _ (halt_not (Cut (way_kind y) p.start p.end) A refl)
+    by : (ls : List Loop) → length ls ≡ 0 → emit m (way_out r p y ls A) ≡ way_out r p y ls A
+    by [] z = no_emit m _ (halt_not (Cut (way_kind y) p.start p.end) A refl)
     by (x ∷ ls) z = absurd (omega arith)

@@ -1,5 +1,5 @@
 -- Constants that a record brings, and names by record numbers. Assumes nothing.
-use mathlib.Core.Path.{◌≡◌, refl, sym, ap, ◌∙◌, subst}
+use mathlib.Core.Path.{◌≡◌, refl, sym, ap, ◌∙◌}
 use mathlib.Core.Bool.{Bool, true, false, cond}
 use mathlib.Core.List.{List, [], ◌∷◌}
 use Prim.Native.Nat.{ℕ, zero, suc, ◌+◌, ◌*◌, ◌≤◌, ◌<◌}
@@ -7,33 +7,30 @@ use native.Mathlib.Omega.{arith}
 use lib.ListN.{length, get_or-eq_default}
 use lib.Dec.{eqb, ltb}
 use borrow.Author.Tests.{eq-eqb, ne_eqb, ltb-true, ltb-false}
-use Rattle.opcode.specs.Words.{pair_of}
 use Rattle.opcode.specs.declared.index.FunctionId.{FunctionId}
 use Rattle.tables.specs.Record.{Words, words, word, size}
 use Rattle.tables.specs.Forest.{none, tree, first, next, forest, children, own_tree}
 use Rattle.pool.specs.Value.{Null, zeros, plain, lit, int, str, function, yield, effect_at, child as words-at}
-use Rattle.pool.specs.Consts.{const_of, made}
-use Rattle.pool.specs.Table.{constant}
-use Rattle.pool.specs.ConstValues.{lit_of}
+use Rattle.pool.specs.Consts.{const_of, made, words as three}
+use Rattle.pool.specs.ConstValues.{words_of, lit_of}
 use Rattle.pool.specs.declared.value.ConstValue.TheVariants as value
 use Rattle.pool.proofs.EffectLaws.{words_none, words_some}
 use Rattle.rules.specs.Step.{Use, ChildPath}
-use Rattle.rules.specs.Marker.{ConstOp, LoadConst}
-use Rattle.rules.specs.Run.{State, bring, here, number_of, spot_at, sought}
-use Rattle.rules.specs.Constants.{brought}
-use Rattle.rules.specs.Out.{const_number}
+use Rattle.rules.specs.Marker.{ConstOp, LoadConst, Load, mark}
+use Rattle.rules.specs.Run.{State, emit, here, number_of, spot_at, sought}
+use Rattle.rules.specs.Out.{brought, const_number}
 use Rattle.emit.specs.Words.{limit, cap}
-use Rattle.emit.specs.Sinks.{Pushes, Loads, Uses}
-use Rattle.emit.specs.Rep.{outs, Walk, Rep, Lent, Scoped}
+use Rattle.emit.specs.Sinks.{constant, Loads, Uses}
+use Rattle.emit.specs.Rep.{Outs, outs, Walk, Rep, Lent, Scoped}
 use Rattle.emit.specs.Does.{nth, reach, access_noted, noted_look}
-use Rattle.emit.proofs.ConstLaws.{loaded, null_pushed}
+use Rattle.emit.proofs.ConstLaws.{loaded}
 use Rattle.emit.proofs.NameLaws.{accessed}
 use Rattle.emit.proofs.VisitLaws.{spot_child, ident_number, number_spot}
 use Rattle.plain.specs.Runs.{use_at}
 
 -- ---- constants
 
-pub lit_brought : (recs : List ℕ) (r d p q : ℕ) → constant recs (lit_of d p q) ≡ brought r (lit d p q)
+pub lit_brought : (recs : List ℕ) (r d p q : ℕ) → constant recs (words_of (lit_of d p q)) ≡ brought r (lit d p q)
 unfolding const_of
 lit_brought recs r zero p q = refl
 lit_brought recs r (suc zero) p q = refl
@@ -41,6 +38,15 @@ lit_brought recs r (suc (suc zero)) p q = refl
 lit_brought recs r (suc (suc (suc zero))) p q = refl
 lit_brought recs r (suc (suc (suc (suc zero)))) p q = refl
 lit_brought recs r (suc (suc (suc (suc (suc d))))) p q = refl
+
+-- a literal is no effect
+lit_kind : (d p q : ℕ) → (words_of (lit_of d p q)).kind ≤ 5
+lit_kind zero p q = omega arith
+lit_kind (suc zero) p q = omega arith
+lit_kind (suc (suc zero)) p q = omega arith
+lit_kind (suc (suc (suc zero))) p q = omega arith
+lit_kind (suc (suc (suc (suc zero)))) p q = omega arith
+lit_kind (suc (suc (suc (suc (suc d))))) p q = omega arith
 
 -- a constant that is not an effect's
 pub plain_brought : (recs : List ℕ) (r k p q p' : ℕ) → (k ≡ 7 → ⊥) → p ≡ p' → const_of recs k p q ≡ brought r (plain k p' q)
@@ -65,41 +71,45 @@ effect_brought e d r k n h q en =
     let z : n ≡ r = omega arith in
     ap (λ (x : ℕ). const_of e.records 7 x h) z
 
-pub nulled : {c : Walk} {recs o₀ : List ℕ} {A : State} {o cs w o' w' : List ℕ} (r : ℕ) → Pushes o w o' w' (pair_of 6 0) → Rep c recs o₀ A (outs o cs) w
-    → Rep c recs o₀ (bring r LoadConst Null A) (outs o' cs) w'
-nulled r h x = null_pushed r h x
+module _ {c : Walk} {recs : List ℕ} {o₀ : Outs} {A : State} {o cs w o' cs' w' : List ℕ} (r : ℕ) where
+  -- push_load_const of a value that no record brings, and the two that import
+  pub plain_loaded : (y : ConstOp) (k p q : ℕ) {n : ℕ} → (k ≡ 7 → ⊥) → n ≡ p → Loads recs o cs w o' cs' w' (const_number y) (three k n q) → Rep c recs o₀ A (outs o cs) w
+      → Rep c recs o₀ (emit (mark r (Load y (plain k p q))) A) (outs o' cs') w'
+  plain_loaded y k p q {n} ne e h x = loaded y r (plain k p q) (λ z. absurd (ne z)) (plain_brought recs r k n q p ne e) h x
 
-module _ {c : Walk} {recs o₀ : List ℕ} {A : State} {o cs w o' cs' w' : List ℕ} (r : ℕ) where
-  pub yielded : Loads recs o cs w o' cs' w' 6 r value.Yield → Rep c recs o₀ A (outs o cs) w → Rep c recs o₀ (bring r LoadConst yield A) (outs o' cs') w'
-  yielded h x = loaded LoadConst r yield (plain_brought recs r 8 0 0 0 (λ z. omega arith) refl) h x
+  pub nulled : Loads recs o cs w o' cs' w' 6 (words_of value.Null) → Rep c recs o₀ A (outs o cs) w
+      → Rep c recs o₀ (emit (mark r (Load LoadConst Null)) A) (outs o' cs') w'
+  nulled h x = plain_loaded LoadConst 0 0 0 (λ z. omega arith) refl h x
 
-  pub int_loaded : {i : ℕ} (n : ℕ) → i ≡ n → Loads recs o cs w o' cs' w' 6 r (value.Int i 0) → Rep c recs o₀ A (outs o cs) w
-      → Rep c recs o₀ (bring r LoadConst (int n) A) (outs o' cs') w'
-  int_loaded {i} n e h x = loaded LoadConst r (int n) (plain_brought recs r 2 i 0 n (λ z. omega arith) e) h x
+  pub yielded : Loads recs o cs w o' cs' w' 6 (words_of value.Yield) → Rep c recs o₀ A (outs o cs) w
+      → Rep c recs o₀ (emit (mark r (Load LoadConst yield)) A) (outs o' cs') w'
+  yielded h x = plain_loaded LoadConst 8 0 0 (λ z. omega arith) refl h x
 
-  -- the record q is the one that the steps name
-  pub str_loaded : (y : ConstOp) {s q : ℕ} (n : ℕ) → s ≡ n → q ≡ r → Loads recs o cs w o' cs' w' (const_number y) q (value.Str s) → Rep c recs o₀ A (outs o cs) w
-      → Rep c recs o₀ (bring r y (str n) A) (outs o' cs') w'
-  str_loaded y {s} n e i h x =
-      loaded y r (str n) (plain_brought recs r 4 s 0 n (λ z. omega arith) e) (subst (λ (j : ℕ). Loads recs o cs w o' cs' w' (const_number y) j (value.Str s)) i h) x
+  pub int_loaded : {i : ℕ} (n : ℕ) → i ≡ n → Loads recs o cs w o' cs' w' 6 (words_of (value.Int i 0)) → Rep c recs o₀ A (outs o cs) w
+      → Rep c recs o₀ (emit (mark r (Load LoadConst (int n))) A) (outs o' cs') w'
+  int_loaded n e h x = plain_loaded LoadConst 2 n 0 (λ z. omega arith) e h x
 
-  pub function_loaded : {f : FunctionId} (n : ℕ) → f.0 ≡ n → Loads recs o cs w o' cs' w' 6 r (value.Function f) → Rep c recs o₀ A (outs o cs) w
-      → Rep c recs o₀ (bring r LoadConst (function n) A) (outs o' cs') w'
-  function_loaded {f} n e h x = loaded LoadConst r (function n) (plain_brought recs r 6 f.0 0 n (λ z. omega arith) e) h x
+  pub str_loaded : (y : ConstOp) {s : ℕ} (n : ℕ) → s ≡ n → Loads recs o cs w o' cs' w' (const_number y) (words_of (value.Str s)) → Rep c recs o₀ A (outs o cs) w
+      → Rep c recs o₀ (emit (mark r (Load y (str n))) A) (outs o' cs') w'
+  str_loaded y n e h x = plain_loaded y 4 n 0 (λ z. omega arith) e h x
 
-  pub lit_loaded : (d p q : ℕ) → Loads recs o cs w o' cs' w' 6 r (lit_of d p q) → Rep c recs o₀ A (outs o cs) w
-      → Rep c recs o₀ (bring r LoadConst (lit d p q) A) (outs o' cs') w'
-  lit_loaded d p q h x = loaded LoadConst r (lit d p q) (lit_brought recs r d p q) h x
+  pub function_loaded : {f : FunctionId} (n : ℕ) → f.0 ≡ n → Loads recs o cs w o' cs' w' 6 (words_of (value.Function f)) → Rep c recs o₀ A (outs o cs) w
+      → Rep c recs o₀ (emit (mark r (Load LoadConst (function n))) A) (outs o' cs') w'
+  function_loaded n e h x = plain_loaded LoadConst 6 n 0 (λ z. omega arith) e h x
+
+  pub lit_loaded : (d p q : ℕ) → Loads recs o cs w o' cs' w' 6 (words_of (lit_of d p q)) → Rep c recs o₀ A (outs o cs) w
+      → Rep c recs o₀ (emit (mark r (Load LoadConst (lit d p q))) A) (outs o' cs') w'
+  lit_loaded d p q h x = loaded LoadConst r (lit d p q) (λ z. absurd (let y : (words_of (lit_of d p q)).kind ≤ 5 = lit_kind d p q in omega arith)) (lit_brought recs r d p q) h x
 
 -- the effect that record r, of kind k + 1, brings
-pub effect_loaded : {c : Walk} (e : Lent) {o₀ : List ℕ} {A : State} {o cs w o' cs' w' : List ℕ} (r : ℕ) → Scoped e → {k n : ℕ} → word e.records r 0 ≡ suc k → n ≡ cap r
-    → Loads e.records o cs w o' cs' w' 6 r (value.Effect n) → Rep c e.records o₀ A (outs o cs) w
-    → Rep c e.records o₀ (bring r LoadConst (effect_at e.records r) A) (outs o' cs') w'
-effect_loaded e r d {k} {n} q en h x = loaded LoadConst r (effect_at e.records r) (effect_brought e d r k n 0 q en) h x
+pub effect_loaded : {c : Walk} (e : Lent) {o₀ : Outs} {A : State} {o cs w o' cs' w' : List ℕ} (r : ℕ) → Scoped e → {k n : ℕ} → word e.records r 0 ≡ suc k → n ≡ cap r
+    → Loads e.records o cs w o' cs' w' 6 (words_of (value.Effect n)) → Rep c e.records o₀ A (outs o cs) w
+    → Rep c e.records o₀ (emit (mark r (Load LoadConst (effect_at e.records r))) A) (outs o' cs') w'
+effect_loaded e r d {k} {n} q en h x = loaded LoadConst r (effect_at e.records r) (λ z. refl) (effect_brought e d r k n 0 q en) h x
 
 -- ---- names
 
-module _ {c : Walk} (e : Lent) {o₀ : List ℕ} {A : State} {o w o' w' cs : List ℕ} (r : ℕ) where
+module _ {c : Walk} (e : Lent) {o₀ : Outs} {A : State} {o w o' w' cs : List ℕ} (r : ℕ) where
   -- the Ident at record i
   pub used_at : (u : Use) (i : ℕ) → Uses o w o' w' u i (access_noted e.notes u i) → Rep c e.records o₀ A (outs o cs) w
       → Rep c e.records o₀ (use_at e r u i A) (outs o' cs) w'

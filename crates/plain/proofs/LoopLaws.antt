@@ -107,10 +107,10 @@ module _ (e : Lent) where
 
   -- ---- a For's targets: the next item is i of n, for the record l
 
-  pub item_puts : {o : Outs} {w w₁ w₂ o₁ o₃ cs : List ℕ} {i : ℕ} (r l : ℕ) → GetsItem R o w (outs o₁ cs) w₁ r (int i) → Uses o₁ w₁ o₃ w₂ Set l (access_noted e.notes Set l)
+  pub item_puts : {o : Outs} {w w₁ w₂ o₁ o₃ cs : List ℕ} {i : ℕ} (r l : ℕ) → GetsItem R o w (outs o₁ cs) w₁ (int i) → Uses o₁ w₁ o₃ w₂ Set l (access_noted e.notes Set l)
       → Moves R o w (outs o₃ cs) w₂ (λ c. item_put e r i l)
   unfolding item_put
-  item_puts r l a b = then_moves (a.moves r) (uses_moves e _ r l b)
+  item_puts r l a b = then_moves (a.moves r r) (uses_moves e _ r l b)
 
   items_turn : (r i n l x : ℕ) (A : State) → i < n → x ≡ next R l → items_put e r i (n - i) l A ≡ items_put e r (i + 1) (n - (i + 1)) x (item_put e r i l A)
   items_turn r i n l x A lt q =
@@ -118,24 +118,24 @@ module _ (e : Lent) where
       ap (λ (k : ℕ). items_put e r i k l A) (let z : n - i ≡ suc (n - (i + 1)) = omega arith in z)
       ∙ ap₂ (λ (j y : ℕ). items_put e r j (n - (i + 1)) y B) (let z : suc i ≡ i + 1 = omega arith in z) (sym q)
 
-  pub record Giving (r n l₁ : ℕ) (o₁ : Outs) (w₁ : List ℕ) (o : Outs) (w : List ℕ) (i l : ℕ) : Type 0 where
-    pub work : Rest R o₁ w₁ (λ c. items_put e r 0 n l₁) o w (λ c. items_put e r i (n - i) l)
-    pub size : length o.code ≡ length o₁.code
+  pub record Giving (n l₁ : ℕ) (o₁ : Outs) (w₁ : List ℕ) (o : Outs) (w : List ℕ) (i l : ℕ) : Type 0 where
+    pub work : (r : ℕ) → Rest R o₁ w₁ (λ c. items_put e r 0 n l₁) o w (λ c. items_put e r i (n - i) l)
+    pub size : (length o.code ≡ length o₁.code) × (length o.consts ≡ length o₁.consts)
 
-  pub giving_start : (r n l : ℕ) (o : Outs) (w : List ℕ) → Giving r n l o w o w 0 l
-  giving_start r n l o w =
-      record { work = rest_start (λ c A. ap (λ (k : ℕ). items_put e r 0 k l A) (let z : n ≡ n - 0 = omega arith in z)); size = refl }
+  pub giving_start : (n l : ℕ) (o : Outs) (w : List ℕ) → Giving n l o w o w 0 l
+  giving_start n l o w =
+      record { work = λ r. rest_start (λ c A. ap (λ (k : ℕ). items_put e r 0 k l A) (let z : n ≡ n - 0 = omega arith in z)); size = (refl, refl) }
 
-  pub giving_again : {r n l₁ : ℕ} {o₁ o o' : Outs} {w₁ w w' : List ℕ} {i l x : ℕ} → Giving r n l₁ o₁ w₁ o w i l → i < n → x ≡ next R l
-      → Moves R o w o' w' (λ c. item_put e r i l) → length o'.code ≡ length o.code → Giving r n l₁ o₁ w₁ o' w' (i + 1) x
-  giving_again {r} {n} {i = i} {l = l} {x = x} d lt q k el = record { work = rest_go d.work k (λ c A. items_turn r i n l x A lt q); size = el ∙ d.size }
+  pub giving_again : {n l₁ : ℕ} {o₁ o o' : Outs} {w₁ w w' : List ℕ} {i l x : ℕ} → Giving n l₁ o₁ w₁ o w i l → i < n → x ≡ next R l
+      → ((r : ℕ) → Moves R o w o' w' (λ c. item_put e r i l)) → length o'.code ≡ length o.code → length o'.consts ≡ length o.consts
+      → Giving n l₁ o₁ w₁ o' w' (i + 1) x
+  giving_again {n} {i = i} {l = l} {x = x} d lt q k el ec = record {
+    work = λ r. rest_go (d.work r) (k r) (λ c A. items_turn r i n l x A lt q);
+    size = (el ∙ d.size.0, ec ∙ d.size.1);
+  }
 
-  -- the count and the first target are those that the code read
-  pub giving_end : {r n l₁ : ℕ} {o₁ o : Outs} {w₁ w : List ℕ} {i l : ℕ} (n' l₂ : ℕ) → Giving r n l₁ o₁ w₁ o w i l → n ≤ i → n ≡ n' → l₁ ≡ l₂
-      → Moves R o₁ w₁ o w (λ c. items_put e r 0 n' l₂)
-  giving_end {r} {n} {i = i} {l = l} n' l₂ d le en el =
-      removes (λ c A. ap₂ (λ (k x : ℕ). items_put e r 0 k x A) (sym en) (sym el))
-      (rest_end d.work (λ c A. ap (λ (k : ℕ). items_put e r i k l A) (let z : n - i ≡ 0 = omega arith in z)))
+  pub giving_end : {n l₁ : ℕ} {o₁ o : Outs} {w₁ w : List ℕ} {i l : ℕ} → Giving n l₁ o₁ w₁ o w i l → n ≤ i → (r : ℕ) → Moves R o₁ w₁ o w (λ c. items_put e r 0 n l₁)
+  giving_end {n} {i = i} {l = l} d le r = rest_end (d.work r) (λ c A. ap (λ (k : ℕ). items_put e r i k l A) (let z : n - i ≡ 0 = omega arith in z))
 
   -- ---- the Params of record r, from the last to the first: n are left, the last of them at record i
 

@@ -40,7 +40,7 @@ use Rattle.rules.specs.Marker.{JumpIfTrueOrPop, JumpIfFalseOrPop, Code, Add, Sub
 use Rattle.rules.specs.Out.{code_number}
 use Rattle.rules.specs.Run.{State, emit, halt}
 use Rattle.emit.specs.Sinks.{Pushes, stopped}
-use Rattle.emit.specs.Rep.{outs, Walk, Rep}
+use Rattle.emit.specs.Rep.{Outs, outs, Walk, Rep}
 use Rattle.emit.proofs.Basics.{on_true, on_false}
 use Rattle.emit.proofs.RepLaws.{given, halted}
 use Rattle.emit.proofs.MarkLaws.{said, same_words}
@@ -233,7 +233,7 @@ module _ {o : BinOp} (d : ℕ) (e : o ≡ binary_of d) where
   is_or = stands.or
 
   -- an operator's opcode pushed, or the refusal: number 13
-  pub operated : {c : Walk} {records o₀ : List ℕ} {A : State} {u w u' w' cs : List ℕ} (r : ℕ) → PushesFound u w u' w' (from_bin_op o) r
+  pub operated : {c : Walk} {records : List ℕ} {o₀ : Outs} {A : State} {u w u' w' cs : List ℕ} (r : ℕ) → PushesFound u w u' w' (from_bin_op o) r
       → Rep c records o₀ A (outs u cs) w → Rep c records o₀ (cond (no_opcode d) (halt (Refused Operator r) A) (emit (mark r (Do (binary_code d) 0)) A)) (outs u' cs) w'
   operated {c} {records} {o₀} {A} {u} {w} {u'} {w'} {cs} r k h = by (from_bin_op o) k stands.opcode
     where

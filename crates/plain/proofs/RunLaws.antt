@@ -11,20 +11,58 @@ use Rattle.tables.specs.Record.{words}
 use Rattle.tables.specs.Forest.{first, next}
 use Rattle.rules.specs.declared.Flow.TheVariants.{Go}
 use Rattle.rules.specs.Marker.{RegisterHandler, Pop, Code, To, Do, Mark, mark}
-use Rattle.rules.specs.Step.{Get, Set, Step, push_op, access, push_ops}
+use Rattle.rules.specs.Step.{Get, Set, Step, push_op, access, get_labels, push_ops}
 use Rattle.rules.specs.Arms.{registers, items_stored, for_targets}
 use Rattle.rules.specs.Run.{State, labels, flow, emit, bump, exec}
 use Rattle.emit.specs.Rep.{Walk, Lent}
 use Rattle.emit.specs.Does.{nth, child, access_noted, doing}
+use Rattle.emit.proofs.RepLaws.{bumps}
 use Rattle.emit.proofs.PartLaws.{nth_next}
 use Rattle.plain.specs.Runs.{repeated, use_at, register, registering, registered, item_put, items_put, targets_put}
 use Rattle.plain.proofs.GoLaws.{emit_flow, emit_labels, bump_flow, bump_labels, sought_labels, sought_flow, env_new}
 use Rattle.plain.proofs.LeafLaws.{use_below}
 
--- the same marker several times, from the other end
+-- ---- the same step several times, from the other end
+
 pub repeated_last : (x : Mark) (n : ℕ) (A : State) → repeated x (suc n) A ≡ emit x (repeated x n A)
 repeated_last x zero A = refl
 repeated_last x (suc n) A = repeated_last x n (emit x A)
+
+bumps_first : (n : ℕ) (A : State) → bumps n (bump A) ≡ bumps (suc n) A
+bumps_first zero A = refl
+bumps_first (suc n) A = ap bump (bumps_first n A)
+
+-- ---- labels taken one behind the other
+
+abbrev pub taken : ℕ → State → List ℕ
+taken zero A = []
+taken (suc n) A = labels A ∷ taken n (bump A)
+
+pub taken_length : (n : ℕ) (A : State) → length (taken n A) ≡ n
+taken_length zero A = refl
+taken_length (suc n) A = ap suc (taken_length n (bump A))
+
+pub bumps_flow : (n : ℕ) (A : State) → flow (bumps n A) ≡ flow A
+bumps_flow zero A = refl
+bumps_flow (suc n) A = bump_flow (bumps n A) ∙ bumps_flow n A
+
+pub bumps_labels : (n : ℕ) (A : State) → flow A ≡ Go → labels (bumps n A) ≡ labels A + n
+bumps_labels zero A g = omega arith
+bumps_labels (suc n) A g =
+    let h : labels (bumps n A) ≡ labels A + n = bumps_labels n A g in
+    let z : labels (bump (bumps n A)) ≡ suc (labels (bumps n A)) = bump_labels (bumps n A) (bumps_flow n A ∙ g) in
+    omega arith
+
+taken_nth : (n k : ℕ) (A : State) → flow A ≡ Go → k < n → get_or (taken n A) k 0 ≡ labels A + k
+taken_nth zero k A g h = absurd (omega arith)
+taken_nth (suc n) zero A g h = omega arith
+taken_nth (suc n) (suc k) A g h =
+    let y : get_or (taken n (bump A)) k 0 ≡ labels (bump A) + k = taken_nth n k (bump A) (bump_flow A ∙ g) (omega arith) in
+    let z : labels (bump A) ≡ suc (labels A) = bump_labels A g in
+    omega arith
+
+pub taken_at : (env : List ℕ) (n k : ℕ) (A : State) → flow A ≡ Go → k < n → get_or (env ++ taken n A) (length env + k) 0 ≡ labels A + k
+taken_at env n k A g h = env_new env (taken n A) k ∙ taken_nth n k A g h
 
 -- ---- the parts
 
@@ -37,6 +75,13 @@ module _ (e : Lent) (c : Walk) (r : ℕ) where
   unfolding doing exec
   says_part zero d x is env A = refl
   says_part (suc n) d x is env A = says_part n d x is env (emit (mark r (Do d x)) A)
+
+  pub takes_part : (n : ℕ) (is : List Step) (env : List ℕ) (A : State) → doing e c r (get_labels n is) env A ≡ doing e c r is (env ++ taken n A) (bumps n A)
+  unfolding doing exec
+  takes_part zero is env A = ap (λ (x : List ℕ). doing e c r is x A) (sym (append-nil env))
+  takes_part (suc n) is env A =
+      takes_part n is (env ++ (labels A ∷ [])) (bump A)
+      ∙ ap₂ (λ (x : List ℕ) (B : State). doing e c r is x B) (append_assoc env (labels A ∷ []) (taken n (bump A))) (bumps_first n A)
 
   pub items_part : (i n l : ℕ) (is : List Step) (env : List ℕ) (A : State) → l ≡ nth R i (first R r)
       → doing e c r (items_stored i n is) env A ≡ doing e c r is env (items_put e r i n l A)
@@ -98,6 +143,10 @@ module _ (e : Lent) (r : ℕ) where
       let y = registering_labels n (next e.records h) B g in
       let z : labels B ≡ suc (labels A) = register_labels h A (registering_flow (suc n) h A g) in
       y ∙ (let u : labels B + n ≡ labels A + suc n = omega arith in u)
+
+  pub registered_length : (n h : ℕ) (A : State) → length (registered e r n h A) ≡ n
+  registered_length zero h A = refl
+  registered_length (suc n) h A = ap suc (registered_length n (next e.records h) (register e r h A))
 
   registered_nth : (n h k : ℕ) (A : State) → flow (registering e r n h A) ≡ Go → k < n → get_or (registered e r n h A) k 0 ≡ labels A + k
   registered_nth zero h k A g lt = absurd (omega arith)

@@ -17,9 +17,9 @@ pub record WithLabels (recs : List ℕ) (o : Outs) (w : List ℕ) (o' : Outs) (w
 pub record JumpsSafe (recs o w o' w' : List ℕ) (r l : ℕ) : Type 0 where
   pub moves : (consts : List ℕ) (a : ℕ) → l ≡ cap a → Moves recs (outs o consts) w (outs o' consts) w' (λ c. safe_run (word recs r 1) r a)
 
--- an item of the value on the stack, at whatever record r, its constant brought by record q
-pub record GetsItem (recs : List ℕ) (o : Outs) (w : List ℕ) (o' : Outs) (w' : List ℕ) (q : ℕ) (v : Value) : Type 0 where
-  pub moves : (r : ℕ) → Moves recs o w o' w' (λ c. item_run r q v)
+-- an item of the value on the stack, at record r, its constant brought by record q
+pub record GetsItem (recs : List ℕ) (o : Outs) (w : List ℕ) (o' : Outs) (w' : List ℕ) (v : Value) : Type 0 where
+  pub moves : (r q : ℕ) → Moves recs o w o' w' (λ c. item_run r q v)
 
 -- the Handlers from the record h on, registered at record r with labels from l on
 pub record Registers (recs notes o w o' w' : List ℕ) (h l : ℕ) : Type 0 where

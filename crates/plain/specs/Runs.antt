@@ -19,15 +19,17 @@ use Rattle.rules.specs.Marker.{
   Swap,
   GetItem,
   Iter,
+  Call,
   Label,
   To,
   Back,
+  Load,
   Do,
   Mark,
   mark,
 }
 use Rattle.rules.specs.Step.{Use, Get, Set, Step, access, refuse}
-use Rattle.rules.specs.Run.{State, labels, emit, bring, bump, finish, sought}
+use Rattle.rules.specs.Run.{State, labels, emit, bump, finish, sought}
 use Rattle.emit.specs.Rep.{Lent}
 use Rattle.emit.specs.Does.{child, access_noted}
 use Rattle.plain.specs.Operators.{is_meta}
@@ -52,20 +54,22 @@ return_run Code2 r A = A
 
 -- the item v of a copy of what is on the stack; record q brings the constant
 abbrev pub item_run : ℕ → ℕ → Value → State → State
-item_run r q v A = emit (mark r (Do GetItem 0)) (bring q LoadConst v (emit (mark r (Do Copy 1)) A))
+item_run r q v A = emit (mark r (Do GetItem 0)) (emit (mark q (Load LoadConst v)) (emit (mark r (Do Copy 1)) A))
 
 -- an AssignOp's member is set: the value goes under what it is set in
 abbrev pub set_run : ℕ → MemberKind → State → State
 set_run r m A = emit (mark r (Do (set_code (member_number m)) 0)) (emit (mark r (Do Swap 2)) (cond (is_meta m) A (emit (mark r (Do Swap 3)) A)))
 
--- a For behind its right side up to Yield, with the continue label a
-abbrev pub iterate_run : ℕ → ℕ → State → State
-iterate_run r a A = bring r LoadConst yield (bring r LoadConst Null (emit (mark r (Label a)) (emit (mark r (Do Iter 0)) A)))
+-- a For behind its right side up to Call, with the continue label a and its body's label b
+abbrev pub iterate_run : ℕ → ℕ → ℕ → State → State
+iterate_run r a b A =
+    emit (mark r (Do Call 1)) (emit (mark r (To RegisterHandler b)) (emit (mark r (Load LoadConst yield)) (emit (mark r (Load LoadConst Null))
+    (emit (mark r (Label a)) (emit (mark r (Do Iter 0)) A)))))
 
 -- a For behind its body, with the continue label a and the break label b
 abbrev pub end_for_run : ℕ → ℕ → ℕ → State → State
 end_for_run r a b A =
-    finish (bring r LoadConst Null (emit (mark r (Do Pop 0)) (emit (mark r (Label b)) (emit (mark r (Back a)) (emit (mark r (Do Pop 0)) A)))))
+    finish (emit (mark r (Load LoadConst Null)) (emit (mark r (Do Pop 0)) (emit (mark r (Label b)) (emit (mark r (Back a)) (emit (mark r (Do Pop 0)) A)))))
 
 -- a Simple import's store, without the Null behind it
 abbrev pub simple_store : Words → ℕ → List Step

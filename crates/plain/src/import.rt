@@ -11,7 +11,6 @@ use emit::constant::push_import_from;
 use emit::flow::refuse;
 use emit::frame::Frame;
 use emit::name::store;
-use pool::consts::Consts;
 use pool::notes::Notes;
 use tables::ast::{detail, first, next, p};
 use tables::detail;
@@ -48,7 +47,7 @@ pub fn import_item(
     recs: &[u32],
     notes: &Notes,
     code: &mut [u32],
-    consts: &mut Consts,
+    consts: &mut [u32],
     frame: &mut Frame,
     item: usize,
 )
@@ -56,6 +55,6 @@ pub fn import_item(
         code.new consts.new frame.new item (λ sc. item_steps) }
 {
     let name = first(recs, item);
-    push_import_from(recs, code, consts, frame, name_of(recs, name), name);
+    push_import_from(recs, code, consts, frame, name_of(recs, name));
     store(notes, code, frame, alias(recs, item, name))
 }

@@ -7,36 +7,22 @@ ghost use Rattle.plain.specs.Leaves.{GetsItem};
 use emit::constant::{push_lit, push_load_const};
 use emit::frame::Frame;
 use emit::op::{push_copy, push_get_item};
-use pool::consts::Consts;
 use pool::value::ConstValue;
 
-// Item i, for record r.
-pub fn push_item(
-    recs: &[u32],
-    code: &mut [u32],
-    consts: &mut Consts,
-    frame: &mut Frame,
-    i: u32,
-    r: usize,
-)
+// Item i.
+pub fn push_item(recs: &[u32], code: &mut [u32], consts: &mut [u32], frame: &mut Frame, i: u32)
     ensures { GetsItem recs.now (outs code.old consts.old) frame.old
-        (outs code.new consts.new) frame.new r (int i) }
+        (outs code.new consts.new) frame.new (int i) }
 {
     push_copy(code, frame, 1);
-    push_load_const(recs, code, consts, frame, ConstValue::Int(i, 0), r);
+    push_load_const(recs, code, consts, frame, ConstValue::Int(i, 0));
     push_get_item(code, frame)
 }
 
 // The value of a key, a Lit.
-pub fn push_value(
-    recs: &[u32],
-    code: &mut [u32],
-    consts: &mut Consts,
-    frame: &mut Frame,
-    key: usize,
-)
+pub fn push_value(recs: &[u32], code: &mut [u32], consts: &mut [u32], frame: &mut Frame, key: usize)
     ensures { GetsItem recs.now (outs code.old consts.old) frame.old
-        (outs code.new consts.new) frame.new key
+        (outs code.new consts.new) frame.new
         (lit (word recs.now key 1) (word recs.now key 2) (word recs.now key 3)) }
 {
     push_copy(code, frame, 1);

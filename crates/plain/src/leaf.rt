@@ -19,7 +19,6 @@ use emit::name::{load, store};
 use emit::op::{push_break, push_continue, push_jump, push_register_handler};
 use emit::word::capped;
 use opcode::index::LabelId;
-use pool::consts::Consts;
 use pool::notes::{Notes, earlier};
 use pool::value::ConstValue;
 use rules::{StackCode, error};
@@ -30,7 +29,7 @@ pub fn effect(
     recs: &[u32],
     notes: &Notes,
     code: &mut [u32],
-    consts: &mut Consts,
+    consts: &mut [u32],
     frame: &mut Frame,
     r: usize,
 )
@@ -38,33 +37,39 @@ pub fn effect(
         code.new consts.new frame.new r (λ sc. effect_steps) }
 {
     let name = first(recs, r);
-    push_load_const(recs, code, consts, frame, ConstValue::Effect(capped(r)), r);
+    push_load_const(recs, code, consts, frame, ConstValue::Effect(capped(r)));
     store(notes, code, frame, name);
-    push_null(code, frame)
+    push_null(recs, code, consts, frame)
 }
 
 // ExprKind::Break
-pub fn break_loop(recs: &[u32], code: &mut [u32], frame: &mut Frame, r: usize)
-    ensures { (notes consts : List ℕ) → Arm recs.now notes code.old consts frame.old
-        code.new consts frame.new r (λ sc. break_steps) }
+pub fn break_loop(recs: &[u32], code: &mut [u32], consts: &mut [u32], frame: &mut Frame, r: usize)
+    ensures { (notes : List ℕ) → Arm recs.now notes code.old consts.old frame.old
+        code.new consts.new frame.new r (λ sc. break_steps) }
 {
     let LabelLookup::Found(label) = break_label(frame) else {
         return cut(recs, frame, error::BREAK_OUTSIDE_LOOP, r);
     };
     push_break(code, frame, label);
-    push_null(code, frame)
+    push_null(recs, code, consts, frame)
 }
 
 // ExprKind::Continue
-pub fn continue_loop(recs: &[u32], code: &mut [u32], frame: &mut Frame, r: usize)
-    ensures { (notes consts : List ℕ) → Arm recs.now notes code.old consts frame.old
-        code.new consts frame.new r (λ sc. continue_steps) }
+pub fn continue_loop(
+    recs: &[u32],
+    code: &mut [u32],
+    consts: &mut [u32],
+    frame: &mut Frame,
+    r: usize,
+)
+    ensures { (notes : List ℕ) → Arm recs.now notes code.old consts.old frame.old
+        code.new consts.new frame.new r (λ sc. continue_steps) }
 {
     let LabelLookup::Found(label) = continue_label(frame) else {
         return cut(recs, frame, error::CONTINUE_OUTSIDE_LOOP, r);
     };
     push_continue(code, frame, label);
-    push_null(code, frame)
+    push_null(recs, code, consts, frame)
 }
 
 // A Return's jump to the label right behind it, in code 1.

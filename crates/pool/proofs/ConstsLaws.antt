@@ -1,21 +1,19 @@
 -- Constants by value: equal ones are one, each is found, and a later table only adds at the end. Assumes nothing.
 use mathlib.Core.Path.{◌≡◌, refl, sym, ap, ap₂, subst, ◌∙◌}
-use mathlib.Core.Bool.{Bool, true, false, not, cond, ◌&&◌, ◌||◌}
+use mathlib.Core.Bool.{Bool, true, false, cond, ◌&&◌, ◌||◌}
 use mathlib.Core.List.{List, [], ◌∷◌, ◌++◌, Memᴰ, append-nil, append_assoc}
-use Prim.Native.Nat.{ℕ, zero, suc, ◌≤◌, ◌<◌}
+use Prim.Native.Nat.{ℕ, zero, suc, ◌+◌, ◌≤◌, ◌<◌, min}
 use native.Mathlib.Omega.{arith}
 use native.Mathlib.Decide.{ℕ_discrete}
 use lib.ListN.{length, get_or, length-append}
-use lib.Dec.{eqb, leb}
-use borrow.Author.Tests.{eq-eqb, eqb-true, lt-leb, le-leb, leb-false}
-use Rattle.pool.specs.Value.{Value, plain, effect, Null, Const, same, same_list_lem, same_bool, find, seen, intern, most, is_full, start}
-use Rattle.pool.specs.Consts.{made, interned}
-use Rattle.pool.specs.Table.{added, held}
-use Rattle.opcode.specs.declared.index.ConstId.{ConstId}
+use lib.Dec.{eqb}
+use borrow.Author.Tests.{eq-eqb, eqb-true}
+use Rattle.pool.specs.Value.{Value, plain, effect, Null, Const, same, same_list_lem, same_bool, find, seen, intern, start}
+use Rattle.pool.specs.Consts.{made, added, index_of, count_of, most, interned}
 use Rattle.pool.specs.declared.consts.Added.{Added}
 use Rattle.pool.specs.declared.consts.Added.TheVariants.{At, Full}
 
-pub clash : true ≡ false → ⊥
+clash : true ≡ false → ⊥
 clash e = let z : ◌≡◌ {A = ℕ} 0 1 = cc in omega arith
 
 or_false : (a b : Bool) → a || b ≡ false → (a ≡ false) × (b ≡ false)
@@ -126,7 +124,7 @@ intern_length cs c = go (seen cs c.value)
     go true = (omega arith, omega arith)
     go false = (omega (arith, length-append cs (c ∷ [])), omega (arith, length-append cs (c ∷ [])))
 
-pub find_append : (cs ds : List Const) (v : Value) → seen cs v ≡ true → find (cs ++ ds) v ≡ find cs v
+find_append : (cs ds : List Const) (v : Value) → seen cs v ≡ true → find (cs ++ ds) v ≡ find cs v
 unfolding find seen
 find_append [] ds v h = absurd (clash (sym h))
 find_append (c ∷ cs) ds v h = go (same c.value v) h (λ h. find_append cs ds v h)
@@ -144,7 +142,7 @@ seen_append (c ∷ cs) ds v h = go (same c.value v) h (λ h. seen_append cs ds v
     go true h ih = refl
     go false h ih = ih h
 
-pub find_last : (cs : List Const) (c : Const) → seen cs c.value ≡ false → find (cs ++ (c ∷ [])) c.value ≡ length cs
+find_last : (cs : List Const) (c : Const) → seen cs c.value ≡ false → find (cs ++ (c ∷ [])) c.value ≡ length cs
 unfolding find seen
 find_last [] c e = ap (λ b. cond b 0 1) (same_self c.value)
 find_last (d ∷ cs) c e = let z = or_false (same d.value c.value) (seen cs c.value) e in rw z.0 (ap suc (find_last cs c z.1))
@@ -164,86 +162,59 @@ seen_intern cs c = seen_inside (intern cs c) c.value (go (seen cs c.value) refl)
     go true e = omega (arith, find_intern cs c, find_seen cs c.value e, (intern_length cs c).0)
     go false e = omega (arith, find_intern cs c, find_unseen cs c.value e, ap length (intern_new cs c e), length-append cs (c ∷ []))
 
--- the index that adding answers lies inside the table after
-pub find_counted : (cs : List Const) (c : Const) → find cs c.value < length (intern cs c)
-find_counted cs c = omega (arith, find_intern cs c, find_seen (intern cs c) c.value (seen_intern cs c))
+-- ---- the answer of adding
 
--- what is there stays
-pub seen_kept : (cs : List Const) (c : Const) (v : Value) → seen cs v ≡ true → seen (intern cs c) v ≡ true
-unfolding intern
-seen_kept cs c v e = go (seen cs c.value)
+-- written or not, the answer has the same index and count
+abbrev answer : Bool → ℕ → ℕ → Added
+answer b i m = cond b (At i m) (Full i m)
+
+abbrev tally : List Const → Const → ℕ
+tally cs c = min (length (intern cs c)) most
+
+pub added_index : (cs : List Const) (fits : Bool) (c : Const) → index_of (added cs fits c) ≡ find cs c.value
+unfolding added
+added_index cs fits c = go (seen cs c.value || fits)
   where
-    go : (b : Bool) → seen (cond b cs (cs ++ (c ∷ []))) v ≡ true
-    go true = e
-    go false = seen_append cs (c ∷ []) v e
-
--- ---- a full table
-
--- an equal one is there, or there is a place
-pub not_full : (cs : List Const) (v : Value) → seen cs v ≡ true → is_full cs v ≡ false
-not_full cs v s = ap (λ (b : Bool). not b && leb most (length cs)) s
-
-pub not_yet_full : (cs : List Const) (v : Value) → length cs < most → is_full cs v ≡ false
-not_yet_full cs v h = go (not (seen cs v))
-  where
-    go : (b : Bool) → b && leb most (length cs) ≡ false
-    go true = lt-leb most (length cs) h
+    go : (b : Bool) → index_of (answer b (find cs c.value) (tally cs c)) ≡ find cs c.value
+    go true = refl
     go false = refl
 
-pub full : (cs : List Const) (v : Value) → seen cs v ≡ false → most ≤ length cs → is_full cs v ≡ true
-full cs v s h = ap (λ (b : Bool). not b && leb most (length cs)) s ∙ le-leb most (length cs) h
-
--- a constant that has a place leaves as many as there may be
-pub few_more : (cs : List Const) (c : Const) → is_full cs c.value ≡ false → length cs ≤ most → length (intern cs c) ≤ most
-few_more cs c f h = go (seen cs c.value) refl
+pub added_count : (cs : List Const) (fits : Bool) (c : Const) → count_of (added cs fits c) ≡ min (length (intern cs c)) most
+unfolding added
+added_count cs fits c = go (seen cs c.value || fits)
   where
-    go : (b : Bool) → seen cs c.value ≡ b → length (intern cs c) ≤ most
-    go true s = omega (arith, ap length (intern_old cs c s))
-    go false s =
-        let z : leb most (length cs) ≡ false = sym (ap (λ (b : Bool). not b && leb most (length cs)) s) ∙ f in
-        omega (arith, leb-false most (length cs) z, ap length (intern_new cs c s), length-append cs (c ∷ []))
+    go : (b : Bool) → count_of (answer b (find cs c.value) (tally cs c)) ≡ tally cs c
+    go true = refl
+    go false = refl
 
--- ---- the answer of adding, and the table after
+-- by what the search answered: found at i, or not among the n entries
+pub added_old : (cs : List Const) (fits : Bool) (c : Const) (n i : ℕ) → length cs ≡ n → n ≤ most → i ≡ find cs c.value → i < n
+    → At i n ≡ added cs fits c
+unfolding added
+added_old cs fits c n i e m q h =
+    let s : seen cs c.value ≡ true = seen_inside cs c.value (omega arith) in
+    let z : length (intern cs c) ≡ length cs = ap length (intern_old cs c s) in
+    let l : n ≡ tally cs c = omega arith in
+    ap₂ At q l ∙ sym (ap (λ b. answer (b || fits) (find cs c.value) (tally cs c)) s)
 
-abbrev answer : List Const → Const → Bool → Added
-answer cs c b = cond b Full (At (record { 0 = find cs c.value }))
+module _ (cs : List Const) (fits : Bool) (c : Const) (n i m : ℕ) (e : length cs ≡ n) (q : i ≡ find cs c.value) (h : n ≤ i) (em : m ≡ min (n + 1) most) where
+  unseen : seen cs c.value ≡ false
+  unseen = seen_outside cs c.value (omega arith)
 
-module _ (cs : List Const) (c : Const) where
-  pub added_at : is_full cs c.value ≡ false → added cs c ≡ At (record { 0 = find cs c.value })
+  counted : m ≡ tally cs c
+  counted = let z : length (intern cs c) ≡ n + 1 = ap length (intern_new cs c unseen) ∙ length-append cs (c ∷ []) ∙ omega arith in em ∙ ap (λ k. min k most) (sym z)
+
+  new_answer : (b : Bool) → fits ≡ b → answer b n m ≡ added cs fits c
   unfolding added
-  added_at e = ap (answer cs c) e
+  new_answer b f =
+      ap₂ (answer b) (sym e ∙ sym (find_unseen cs c.value unseen)) counted
+      ∙ sym (ap₂ (λ s t. answer (s || t) (find cs c.value) (tally cs c)) unseen f)
 
-  pub added_none : is_full cs c.value ≡ true → added cs c ≡ Full
-  unfolding added
-  added_none e = ap (answer cs c) e
+  pub added_new : fits ≡ true → At n m ≡ added cs fits c
+  added_new f = new_answer true f
 
-  pub held_at : is_full cs c.value ≡ false → held cs c ≡ intern cs c
-  unfolding held
-  held_at e = ap (λ (b : Bool). cond b cs (intern cs c)) e
-
-  pub held_none : is_full cs c.value ≡ true → held cs c ≡ cs
-  unfolding held
-  held_none e = ap (λ (b : Bool). cond b cs (intern cs c)) e
-
-  abbrev told_full : Added → Bool
-  told_full (At i) = false
-  told_full Full = true
-
-  pub full_only : Full ≡ added cs c → is_full cs c.value ≡ true
-  unfolding added
-  full_only e = go (is_full cs c.value) (ap told_full e)
-    where
-      go : (b : Bool) → true ≡ told_full (answer cs c b) → b ≡ true
-      go true q = refl
-      go false q = absurd (clash q)
-
-  pub not_full_only : {i : ConstId} → At i ≡ added cs c → is_full cs c.value ≡ false
-  unfolding added
-  not_full_only e = go (is_full cs c.value) (ap told_full e)
-    where
-      go : (b : Bool) → false ≡ told_full (answer cs c b) → b ≡ false
-      go true q = absurd (clash (sym q))
-      go false q = refl
+  pub added_full : fits ≡ false → Full n m ≡ added cs fits c
+  added_full f = new_answer false f
 
 -- ---- a table made by adding one constant after the other
 

@@ -1,10 +1,9 @@
 pub mod EffectLaws
 pub mod WordLaws
+pub mod SearchLaws
 pub mod ConstsLaws
 pub mod TableLaws
-pub mod WalkLaws
-pub mod HoldsLaws
-pub mod AddsLaws
+pub mod LaidLaws
 pub mod Basics
 pub mod WordParts
 pub mod EntryLaws

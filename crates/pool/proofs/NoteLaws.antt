@@ -8,7 +8,7 @@ use lib.ListN.{length}
 use lib.Dec.{ltb}
 use Rattle.tables.specs.Refusal.{run_number}
 use Rattle.tables.specs.declared.refusal.RunRule.{RunRule}
-use Rattle.tables.specs.declared.refusal.RunRule.TheVariants.{Reference, Load, Store, Operator, Lengths, Path, Skipped, Constants}
+use Rattle.tables.specs.declared.refusal.RunRule.TheVariants.{Reference, Load, Store, Operator, Lengths, Path, Skipped}
 use Rattle.tables.specs.Semantic.{symbol_of}
 use Rattle.pool.specs.Names.{Semantic, is_global, upvalue_symbols, Names, names, Place, at, nowhere, index_of}
 use Rattle.pool.specs.Names.{Access, local, global, upvalue, missing, first_found, stored_local, stored_global, load, store}
@@ -17,7 +17,7 @@ use Rattle.pool.specs.Notes.{load_note, store_note, load_of, store_of}
 use Rattle.pool.specs.declared.lookup.Access.{Access as Answer}
 use Rattle.pool.proofs.NamesLaws.{InTable, load_inside, store_inside}
 
-number_most : (x : RunRule) → run_number x ≤ 17
+number_most : (x : RunRule) → run_number x ≤ 16
 number_most Reference = omega arith
 number_most Load = omega arith
 number_most Store = omega arith
@@ -25,9 +25,8 @@ number_most Operator = omega arith
 number_most Lengths = omega arith
 number_most Path = omega arith
 number_most Skipped = omega arith
-number_most Constants = omega arith
 
-pub number_few : (n : ℕ) (x : RunRule) → n ≡ run_number x → n ≤ 17
+pub number_few : (n : ℕ) (x : RunRule) → n ≡ run_number x → n ≤ 16
 number_few n x e = omega (arith, number_most x)
 
 -- equal answers have equal notes

@@ -10,8 +10,7 @@ use Rattle.pool.specs.declared.value.ConstValue.TheVariants.{Bytes}
 use Rattle.pool.specs.ConstValues.{lit_of}
 use Rattle.pool.specs.Value.{plain, Const, same, effect_at}
 use Rattle.pool.specs.declared.consts.ConstWords.{ConstWords}
-use Rattle.pool.specs.Consts.{made, words, const_of, at, entry, name_at}
-use Rattle.pool.specs.Table.{spread, bucket}
+use Rattle.pool.specs.Consts.{made, words, const_of, at, entry}
 
 module _ (recs : List ℕ) where
   pub plain_const : (k l h : ℕ) → eqb k 7 ≡ false → const_of recs k l h ≡ made (plain k l h)
@@ -24,13 +23,6 @@ module _ (recs : List ℕ) where
 
   const_plain : (k l h : ℕ) → (k ≡ 7 → ⊥) → (const_of recs k l h).value ≡ plain k l h
   const_plain k l h d = ap (λ (c : Const). c.value) (plain_const k l h (ne_eqb k 7 d))
-
-  -- the chain of a constant by its words; an effect's is by its name
-  pub bucket_effect : (k l h n b : ℕ) → k ≡ 7 → n ≡ name_at recs l → b ≡ spread 7 n 0 → b ≡ bucket (const_of recs k l h).value
-  bucket_effect k l h n b e q p = p ∙ ap (λ m. spread 7 m 0) q ∙ sym (ap bucket (const_effect k l h e))
-
-  pub bucket_plain : (k l h b : ℕ) → (k ≡ 7 → ⊥) → b ≡ spread k l h → b ≡ bucket (const_of recs k l h).value
-  bucket_plain k l h b d p = p ∙ sym (ap bucket (const_plain k l h d))
 
   -- the comparison of two constants by their words
   abbrev alike : (k l h k' l' h' : ℕ) → Bool

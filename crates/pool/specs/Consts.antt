@@ -1,9 +1,11 @@
--- Constants in words: one, a row of them, and a row laid into lent words. Document 01, 'The call': "constants (kind, two words: ..)". Definitions only.
-use Rattle.std.specs.Prelude.{◌≡◌, Bool, cond, List, [], ◌∷◌, ℕ, zero, suc, ◌+◌, ◌*◌, length, get_or, set, ltb, eqb}
+-- The table of constants in lent words, and what adding one answers and writes. Document 01, 'The call': "constants (kind, two words: ..)". Definitions only.
+use Rattle.std.specs.Prelude.{◌≡◌, Bool, cond, ◌||◌, List, [], ◌∷◌, ℕ, zero, suc, ◌+◌, ◌*◌, min, length, get_or, set, ltb, eqb}
 use Rattle.tables.specs.Record.{word}
 use Rattle.tables.specs.Forest.{own_tree, forest, children}
-use Rattle.pool.specs.Value.{Value, plain, Const, intern, effect_at, kind_word, low_word, high_word, child, below, ident_names}
+use Rattle.pool.specs.Value.{Value, plain, Const, find, seen, intern, effect_at, kind_word, low_word, high_word, child, below, ident_names}
 use Rattle.pool.specs.declared.consts.ConstWords.{ConstWords}
+use Rattle.pool.specs.declared.consts.Added.{Added}
+use Rattle.pool.specs.declared.consts.Added.TheVariants.{At, Full}
 
 -- "6 Effect (p name): Ident, Params"; a Handler's name is its Ident's (reading 20)
 abbrev pub name_at : List ℕ → ℕ → ℕ
@@ -70,6 +72,30 @@ put_const ws n c = put3 ws n (words_of c).kind (words_of c).low (words_of c).hig
 unfoldable pub laid : List ℕ → ℕ → List Const → List ℕ
 laid ws n [] = ws
 laid ws n (c ∷ cs) = laid (put_const ws n c) (suc n) cs
+
+-- the largest count that the code's counter holds
+abbrev pub most : ℕ
+most = 18446744073709551615
+
+-- what adding a constant answers, where the words have room for one more or not: "Constants start with Null and equal ones are one"
+unfoldable pub added : List Const → Bool → Const → Added
+added cs fits c =
+    cond (seen cs c.value || fits)
+    (At (find cs c.value) (min (length (intern cs c)) most))
+    (Full (find cs c.value) (min (length (intern cs c)) most))
+
+-- "a definition that gives this paper's number and values for each of its cases": an answer's index and count
+abbrev pub index_of : Added → ℕ
+index_of (At i n) = i
+index_of (Full i n) = i
+
+abbrev pub count_of : Added → ℕ
+count_of (At i n) = n
+count_of (Full i n) = n
+
+-- the words after adding: a new value's three at entry n, and nothing else
+unfoldable pub written : List ℕ → List ℕ → ℕ → ℕ → ℕ → ℕ → List ℕ
+written recs ws n k l h = cond (seen (table recs ws n) (const_of recs k l h).value) ws (put3 ws n k l h)
 
 -- a table after some constants, one after the other, as the Rust's add_const is called
 unfoldable pub interned : List Const → List Const → List Const

@@ -7,6 +7,5 @@ pub mod Lookups
 pub mod NameSteps
 pub mod ConstValues
 pub mod Notes
-pub mod Table
 pub mod Resolve
 pub mod ResolveSteps

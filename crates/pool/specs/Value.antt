@@ -1,6 +1,6 @@
 -- Constants by value. Document 01, 'The call': "constants (kind, two words: a Lit's detail with its p and q, a length or index as Int, a member, path
 -- or item name as Str; 6 Function, its number; 7 Effect, the Effect or Handler record first bringing it; 8 Yield; unused words 0)". Definitions only.
-use Rattle.std.specs.Prelude.{Bool, true, false, not, cond, ◌&&◌, ◌||◌, List, [], ◌∷◌, ◌++◌, ℕ, zero, suc, length, eqb, leb}
+use Rattle.std.specs.Prelude.{Bool, true, false, cond, ◌&&◌, ◌||◌, List, [], ◌∷◌, ◌++◌, ℕ, zero, suc, eqb}
 use Rattle.tables.specs.Record.{Words, words}
 use Rattle.tables.specs.Forest.{Nodes, bare, node, own_tree, children}
 
@@ -69,14 +69,6 @@ seen (c ∷ cs) v = same c.value v || seen cs v
 -- the Rust's add_const: a value not seen before is added at the end
 unfoldable pub intern : List Const → Const → List Const
 intern cs c = cond (seen cs c.value) cs (cs ++ (c ∷ []))
-
--- document 02, job 2: "The meter's loader holds 256 constants a function, Null included"
-abbrev pub most : ℕ
-most = 256
-
--- the value would be the 257th different one
-abbrev pub is_full : List Const → Value → Bool
-is_full cs v = not (seen cs v) && leb most (length cs)
 
 -- "Constants start with Null"
 abbrev pub start : List Const

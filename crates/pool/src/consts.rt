@@ -1,13 +1,9 @@
-// The constants of one function, the Rust's add_const and its table of ConstValues: an array of the function's own, with chains of equal hashes beside the entries.
-ghost use Rattle.std.specs.Prelude.{◌≡◌, false, List, [], ◌∷◌, ◌++◌, ℕ, ◌<◌, length, get_or};
-ghost use Rattle.pool.specs.Value.{Const, same, seen, start};
-ghost use Rattle.pool.specs.Consts.{words, const_of, entry, put3 as put3Of, laid};
-ghost use Rattle.pool.specs.Table.{spread as spread_of, bucket as bucketOf, Holds, place, Adds};
+// The constants of one function: a searched table in lent words, three to an entry. The Rust's add_const and its table of ConstValues.
+ghost use Rattle.std.specs.Prelude.{◌≡◌, ◌+◌, ◌<◌, min};
+ghost use Rattle.pool.specs.Value.{same, find};
+ghost use Rattle.pool.specs.Consts.{words, at, const_of, entry, table, room, put3 as put3Of, most, added, written};
 
-use crate::effect::{effect_name, same_effect};
-use crate::value::{ConstValue, const_words};
-use crate::word::wide;
-use opcode::index::ConstId;
+use crate::effect::same_effect;
 
 // A constant's three words.
 #[derive(Drop)]
@@ -17,30 +13,15 @@ pub struct ConstWords {
     pub high: u32,
 }
 
-// Where a constant stands.
+// Where a constant stands, and how many the table then counts.
 #[derive(Drop)]
 pub enum Added {
-    At(ConstId),
-    // The table has all that it may have, and the value is another one.
-    Full,
+    At { index: usize, count: usize },
+    // The lent words have no room: the value is counted and not written.
+    Full { index: usize, count: usize },
 }
 
-// "The meter's loader holds 256 constants a function, Null included."
-const MOST: usize = 256;
-
-// How many chains there are, one for each number that the hash gives.
-const CHAINS: usize = 256;
-
-// For each chain one more than its newest entry, and for each entry one more than the entry before it in its chain; 0 where there is none.
-const HEADS: usize = 768;
-
-const LINKS: usize = 1024;
-
-const COUNT: usize = 1280;
-
-pub const SIZE: usize = 1281;
-
-pub type Consts = [u32; SIZE];
+const MOST: usize = 18446744073709551615;
 
 pub fn three(kind: u32, low: u32, high: u32) -> ConstWords
     ensures { result ≡ words kind low high }
@@ -48,162 +29,125 @@ pub fn three(kind: u32, low: u32, high: u32) -> ConstWords
     ConstWords { kind, low, high }
 }
 
-// Upper bits of a product, so that words that differ in few bits, low or high ones, come apart.
-fn spread(kind: u32, low: u32, high: u32) -> usize
-    ensures { result ≡ spread_of kind low high }
+// Word j of entry i, 0 where the lent words end before it.
+fn const_word(consts: &[u32], i: usize, j: usize) -> u32
+    requires { j < 3 }
+    ensures { result ≡ at consts.now i j }
 {
-    let sum = kind as u64 * 668265263 + low as u64 * 1013904223 + high as u64 * 374761393;
-    (sum % 4294967296 / 16777216) as usize
-}
-
-// The chain that a constant is looked up in; equal effects have equal names.
-fn bucket(recs: &[u32], w: ConstWords) -> usize
-    ensures { result ≡ bucketOf (const_of recs.now w.kind w.low w.high).value }
-{
-    if w.kind == 7 {
-        return spread(7, effect_name(recs, wide(w.low)), 0);
+    if i < consts.len() {
+        let k = i * 3 + j;
+        if k < consts.len() {
+            return consts[k];
+        }
     }
-    spread(w.kind, w.low, w.high)
+    0
 }
 
 // Whether two constants, by their words, are equal.
-fn same_words(recs: &[u32], a: ConstWords, b: ConstWords) -> bool
-    ensures { result ≡ same (const_of recs.now a.kind a.low a.high).value (const_of recs.now b.kind b.low b.high).value }
+fn same_words(records: &[u32], a: ConstWords, kind: u32, low: u32, high: u32) -> bool
+    ensures { result ≡ same (const_of records.now a.kind a.low a.high).value (const_of records.now kind low high).value }
 {
-    if a.kind != b.kind {
+    if a.kind != kind {
         return false;
     }
-    if b.kind == 7 {
-        return same_effect(recs, wide(a.low), wide(b.low));
+    if kind == 7 {
+        return same_effect(records, a.low as usize, low as usize);
     }
-    if a.low != b.low {
+    if a.low != low {
         return false;
     }
-    a.high == b.high
+    a.high == high
 }
 
 // Whether entry i equals the constant of these words.
-fn same_const(recs: &[u32], consts: &Consts, i: usize, w: ConstWords) -> bool
-    requires { i < 256 }
-    ensures { result ≡ same (entry recs.now consts.now i).value (const_of recs.now w.kind w.low w.high).value }
+pub fn same_const(records: &[u32], consts: &[u32], i: usize, kind: u32, low: u32, high: u32) -> bool
+    ensures { result ≡ same (entry records.now consts.now i).value (const_of records.now kind low high).value }
 {
-    let a = three(consts[i * 3], consts[i * 3 + 1], consts[i * 3 + 2]);
-    same_words(recs, a, w)
+    let a = three(
+        const_word(consts, i, 0),
+        const_word(consts, i, 1),
+        const_word(consts, i, 2),
+    );
+    same_words(records, a, kind, low, high)
 }
 
-// Goes along chain b from the newest entry to the oldest; 256 where none equals the constant of these words.
-fn find_const(recs: &[u32], consts: &Consts, b: usize, w: ConstWords) -> usize
-    requires { b < 256 }
-    ensures { (cs : List Const) → Holds recs.now consts.now cs
-        → b ≡ bucketOf (const_of recs.now w.kind w.low w.high).value
-        → result ≡ place cs (const_of recs.now w.kind w.low w.high).value }
+// The first of n entries that equals the constant of these words, or n.
+pub fn find_const(
+    records: &[u32],
+    consts: &[u32],
+    n: usize,
+    kind: u32,
+    low: u32,
+    high: u32,
+) -> usize
+    ensures { result ≡ find (table records.now consts.now n) (const_of records.now kind low high).value }
 {
-    let mut c = wide(consts[HEADS + b]);
-    if MOST < c {
-        return MOST;
-    }
-    while 0 < c {
-        let i = c - 1;
-        if same_const(recs, consts, i, w) {
+    let mut i: usize = 0;
+    while i < n {
+        if same_const(records, consts, i, kind, low, high) {
             return i;
         }
-        let next = wide(consts[LINKS + i]);
-        // in other words than a table's a chain could come back
-        if c <= next {
-            return MOST;
+        // past the lent words all entries are alike
+        if consts.len() <= i {
+            return n;
         }
-        c = next;
+        i += 1;
     }
-    MOST
+    n
 }
 
-// Entry n with its words, at the head of chain b.
-fn put_const(consts: &mut Consts, n: usize, b: usize, w: ConstWords)
-    requires fact_1 { n < 256 }
-    requires fact_2 { b < 256 }
-    ensures { (recs : List ℕ) (cs : List Const) → Holds recs consts.old cs → n ≡ length cs
-        → b ≡ bucketOf (const_of recs w.kind w.low w.high).value → seen cs (const_of recs w.kind w.low w.high).value ≡ false
-        → (w.kind ≡ 7 → w.high ≡ 0) → Holds recs consts.new (cs ++ (const_of recs w.kind w.low w.high ∷ [])) }
+// The three words of entry n; answers whether there was room for them.
+pub fn put3(consts: &mut [u32], n: usize, kind: u32, low: u32, high: u32) -> bool
+    ensures room { result ≡ room consts.old n }
+    ensures words { consts.new ≡ put3Of consts.old n kind low high }
 {
-    consts[n * 3] = w.kind;
-    consts[n * 3 + 1] = w.low;
-    consts[n * 3 + 2] = w.high;
-    consts[LINKS + n] = consts[HEADS + b];
-    consts[HEADS + b] = n as u32 + 1;
-    consts[COUNT] = n as u32 + 1;
+    if n < consts.len() {
+        let i = n * 3 + 2;
+        if i < consts.len() {
+            consts[n * 3] = kind;
+            consts[n * 3 + 1] = low;
+            consts[i] = high;
+            return true;
+        }
+    }
+    false
 }
 
-// A table without entries.
-fn clear(words: &mut [u32])
-    requires { length words.old ≡ 1281 }
-    ensures { (recs : List ℕ) → Holds recs words.new [] }
+// One entry more, as far as the counter goes.
+fn more(n: usize) -> usize
+    ensures { result ≡ min (n + 1) most }
 {
-    let mut b: usize = 0;
-    while b < CHAINS {
-        words[HEADS + b] = 0;
-        b += 1;
-    }
-    words[COUNT] = 0;
+    if n < MOST { n + 1 } else { n }
 }
 
 // Constants start with Null.
-pub fn start_consts(consts: &mut Consts)
-    ensures { (recs : List ℕ) → Holds recs consts.new start }
+pub fn start_consts(consts: &mut [u32]) -> usize
+    ensures count { result ≡ 1 }
+    ensures words { consts.new ≡ put3Of consts.old 0 0 0 0 }
 {
-    clear(consts);
-    put_const(consts, 0, spread(0, 0, 0), three(0, 0, 0));
+    put3(consts, 0, 0, 0, 0);
+    1
 }
 
-pub fn const_count(consts: &Consts) -> u32
-    ensures { result ≡ get_or consts.now 1280 0 }
+// An equal value's index, or the next one, where the value is then written if there is room.
+pub fn add_const(
+    records: &[u32],
+    consts: &mut [u32],
+    n: usize,
+    kind: u32,
+    low: u32,
+    high: u32,
+) -> Added
+    ensures answer { result ≡ added (table records.now consts.old n) (room consts.old n) (const_of records.now kind low high) }
+    ensures words { consts.new ≡ written records.now consts.old n kind low high }
 {
-    consts[COUNT]
-}
-
-// An equal value's index, or the next one, where the value is then written; past 256 there is no next one.
-pub fn add_const(recs: &[u32], consts: &mut Consts, value: ConstValue) -> Added
-    ensures { Adds recs.now consts.old consts.new value result }
-{
-    let w = const_words(value);
-    let b = bucket(recs, w);
-    let i = find_const(recs, consts, b, w);
-    if i < MOST {
-        return Added::At(ConstId(i as u32));
+    let i = find_const(records, consts, n, kind, low, high);
+    if i < n {
+        return Added::At { index: i, count: n };
     }
-    let n = wide(const_count(consts));
-    if MOST <= n {
-        return Added::Full;
+    let count = more(n);
+    if put3(consts, n, kind, low, high) {
+        return Added::At { index: n, count };
     }
-    put_const(consts, n, b, w);
-    Added::At(ConstId(n as u32))
-}
-
-// The three words of entry n, where there is room for them.
-pub fn put3(out: &mut [u32], n: usize, kind: u32, low: u32, high: u32)
-    ensures { out.new ≡ put3Of out.old n kind low high }
-{
-    if n < out.len() {
-        let i = n * 3 + 2;
-        if i < out.len() {
-            out[n * 3] = kind;
-            out[n * 3 + 1] = low;
-            out[i] = high;
-        }
-    }
-}
-
-// The entries' words to the front of the lent ones, as far as there is room.
-pub fn write_consts(consts: &Consts, out: &mut [u32])
-    ensures { (recs : List ℕ) (cs : List Const) → Holds recs consts.now cs → out.new ≡ laid out.old 0 cs }
-{
-    let n = wide(const_count(consts));
-    let mut i: usize = 0;
-    while i < n {
-        // in other words than a table's the count could be any
-        if MOST <= i {
-            return;
-        }
-        put3(out, i, consts[i * 3], consts[i * 3 + 1], consts[i * 3 + 2]);
-        i += 1;
-    }
+    Added::Full { index: n, count }
 }

@@ -5,7 +5,7 @@ ghost use Rattle.pool.specs.Value.{same, same_list_lem, same_bool, effect_at};
 ghost use Rattle.pool.specs.Consts.{name_at, names_from, names_below, is_variadic};
 
 // The name string that an Effect or a Handler gives: an Effect's p, else its Ident's q.
-pub fn effect_name(records: &[u32], r: usize) -> u32
+fn effect_name(records: &[u32], r: usize) -> u32
     ensures { result ≡ name_at records.now r }
 {
     if tables::ast::kind(records, r) == 6 {

@@ -87,7 +87,7 @@ pub fn store_of(notes: &Notes, r: usize) -> Access
 }
 
 fn word(code: u32, index: u32) -> u32
-    requires { code ≤ 17 }
+    requires { code ≤ 16 }
     ensures { result ≡ code * 4096 + index % 4096 }
 {
     code * 4096 + index % 4096

@@ -8,10 +8,9 @@ use lib.Dec.{eqb}
 use Rattle.tables.specs.Record.{Words, words, is_do}
 use Rattle.tables.specs.Forest.{Forest, none, tree, children, first, fold, own_tree}
 use Rattle.tables.proofs.ForestLaws.{Each, each, each_at, Genuine, genuine}
-use Rattle.pool.specs.Value.{Value}
 use Rattle.pool.specs.Names.{Access, local, global, upvalue, missing}
 use Rattle.rules.specs.declared.StackCode.{StackCode}
-use Rattle.rules.specs.Marker.{Way, ConstOp, Code, Pop, LoadLocals, Return, Op, Label, To, Back, Load, Do, Mark, mark}
+use Rattle.rules.specs.Marker.{Way, Code, Pop, LoadLocals, Return, Op, Label, To, Back, Load, Do, Mark, mark}
 use Rattle.rules.specs.Step.{
   Role,
   Expr,
@@ -85,11 +84,9 @@ use Rattle.rules.specs.Run.{
   alone,
   spot_at,
   number_of,
-  bring,
 }
 use Rattle.rules.specs.declared.Flow.{Flow}
 use Rattle.rules.specs.declared.Flow.TheVariants.{Go, Cut, Refused}
-use Rattle.rules.proofs.Bring.{bring_cases, bring_both}
 use Rattle.rules.proofs.Sticky.{Ended, Sticky, emit_sticky, exec_sticky, visits_sticky}
 use Rattle.rules.proofs.Numbers.{Every}
 
@@ -105,9 +102,6 @@ Runs (Refused x r) = ⊥
 
 abbrev pub Agree : (State → State) → (State → State) → Type 0
 Agree v v' = (s t : State) → Like s t → Runs (flow (v s)) → Like (v s) (v' t)
-
-like_marks : (s t : State) → Like s t → marks s ≡ marks t
-like_marks s t (like m l ls os f e e') = refl
 
 settle_like : (s t : State) → Like s t → Like (settle s) (settle t)
 settle_like s t (like m l ls os Go e e') = like m l ls os Go _ _
@@ -162,9 +156,6 @@ sought_like r u i (local n) s t h z = emit_like _ s t h z
 sought_like r u i (global n) s t h z = emit_like _ s t h z
 sought_like r u i (upvalue n) s t h z = emit_like _ s t h z
 sought_like r u i (missing x) s t h z = halt_like _ s t h z
-
-bring_like : (r : ℕ) (c : ConstOp) (v : Value) → Agree (bring r c v) (bring r c v)
-bring_like r c v s t h = bring_both (λ u u'. Runs (flow u) → Like u u') r c v s t (like_marks s t h) (halt_like _ s t h) (emit_like _ s t h)
 
 bump_like : Agree bump bump
 unfolding bump
@@ -221,7 +212,7 @@ module _ (sc : StackCode) (t : Lookup) (trim : List Loop → List Loop) where
       (sticky : (a : Role) (j : ℕ) → Sticky (vs a j)) (agree : (a : Role) (j : ℕ) → Agree (vs a j) (vs' a j)) where
     act_like : (x : Step) (env : List ℕ) → Agree (act t (nesting sc trim) fn r w k vs body x env) (act t (flat sc trim) fn r w k vs' body' x env)
     act_like (push_op c x) env = emit_like _
-    act_like (push_const c p v) env = bring_like _ c v
+    act_like (push_const c p v) env = emit_like _
     act_like get_label env = bump_like
     act_like (place i) env = emit_like _
     act_like (jump h i) env = emit_like _
@@ -360,9 +351,6 @@ module _ (P : Stream → Type 0) where
   sought_same r u i (upvalue n) s = emit_same _ s
   sought_same r u i (missing x) s = halt_same _ s
 
-  bring_same : (r : ℕ) (c : ConstOp) (v : Value) → Same (bring r c v)
-  bring_same r c v s = bring_cases (λ u. streams u ≡ streams s) r c v s (halt_same _ s) (emit_same _ s)
-
   emit_keeps : (x : Mark) → Keeps (emit x)
   emit_keeps x = same_keeps (emit x) (emit_same x)
 
@@ -414,7 +402,7 @@ module _ (P : Stream → Type 0) where
     act_keeps : (x : Step) (env : List ℕ) → Keeps (act t (nesting sc trim) fn r w k vs body x env)
     unfolding outward
     act_keeps (push_op c x) env = emit_keeps (mark r (Do c x))
-    act_keeps (push_const c p v) env = let i = number_of (spot_at (tree r w k none) p) in same_keeps (bring i c v) (bring_same i c v)
+    act_keeps (push_const c p v) env = emit_keeps (mark (number_of (spot_at (tree r w k none) p)) (Load c v))
     act_keeps get_label env = same_keeps bump bump_same
     act_keeps (place i) env = emit_keeps (mark r (Label (get_or env i 0)))
     act_keeps (jump h i) env = emit_keeps (mark r (To h (get_or env i 0)))

@@ -17,7 +17,7 @@ use Rattle.pool.specs.Value.{Value, Null, same, Const, seen, intern}
 use Rattle.rules.specs.declared.StackCode.{StackCode}
 use Rattle.rules.specs.Marker.{Label, To, Back, Leave, Load, Do, Mark, mark}
 use Rattle.rules.specs.Run.{Lookup, Loop, Stream, State, st, side, settle, anew, returned, entered, nested, full, stream, visits_of, nothing, run}
-use Rattle.rules.specs.Constants.{brought, consts}
+use Rattle.rules.specs.Out.{brought, consts}
 use Rattle.rules.specs.declared.Flow.TheVariants.{Go, Cut, Refused}
 use Rattle.rules.proofs.Numbers.{Every, stream_meets}
 use Rattle.rules.proofs.Shapes.{Shaped, function_shape, table_shaped}

@@ -11,11 +11,25 @@ use Rattle.pool.specs.Names.{index_of, with_symbol, with_symbols, names_upto, na
 use Rattle.rules.specs.declared.StackCode.{StackCode}
 use Rattle.rules.specs.declared.StackCode.TheVariants.{Code1}
 use Rattle.rules.specs.Kinds.{steps}
-use Rattle.rules.specs.Run.{emit, bring, bump, halt, begin, finish, outward, barred, kept, nested, exec, stream, run}
-use Rattle.rules.specs.Constants.{consts}
-use Rattle.rules.specs.Out.{Out, Outcome, listed, refused, marker_words, const_words, plain_names, upvalue_words, error_words, loop_depth, stream_of_lem, each_function, outcome}
+use Rattle.rules.specs.Run.{emit, bump, halt, begin, finish, outward, barred, kept, nested, exec, stream, run}
+use Rattle.rules.specs.Out.{
+  Out,
+  Outcome,
+  listed,
+  refused,
+  consts,
+  marker_words,
+  const_words,
+  plain_names,
+  upvalue_words,
+  error_words,
+  loop_depth,
+  stream_of_lem,
+  each_function,
+  outcome,
+}
 use Rattle.rules.specs.Cases.{Case, cases, empty}
-use Rattle.rules.specs.RequestCases.{Request, requests, Filling, filled, fillings}
+use Rattle.rules.specs.RequestCases.{Request, requests}
 
 abbrev gives : Case → Outcome → Bool
 gives c (listed o) =
@@ -27,9 +41,8 @@ all_given [] = true
 all_given (c ∷ cs) = gives c (outcome Code1 empty c.records) && all_given cs
 
 pub cases_hold : T (all_given cases)
-unfolding guarded first next grow forest find seen intern share_start index_of with_symbol with_symbols names_upto names load store steps emit bring bump halt begin
-    finish outward barred kept nested exec stream run consts marker_words const_words plain_names upvalue_words error_words loop_depth stream_of_lem each_function
-    outcome
+unfolding guarded first next grow forest find seen intern share_start index_of with_symbol with_symbols names_upto names load store steps emit bump halt begin finish
+    outward barred kept nested exec stream run consts marker_words const_words plain_names upvalue_words error_words loop_depth stream_of_lem each_function outcome
 cases_hold = tt
 
 abbrev AllCome : List Request → Type 0
@@ -37,16 +50,6 @@ AllCome [] = Unit {0}
 AllCome (c ∷ cs) = (outcome c.code c.tables c.records ≡ c.outcome) × AllCome cs
 
 pub requests_hold : AllCome requests
-unfolding guarded first next grow forest find seen intern share_start index_of with_symbol with_symbols names_upto names load store steps emit bring bump halt begin
-    finish outward barred kept nested exec stream run consts marker_words const_words plain_names upvalue_words error_words loop_depth stream_of_lem each_function
-    outcome
+unfolding guarded first next grow forest find seen intern share_start index_of with_symbol with_symbols names_upto names load store steps emit bump halt begin finish
+    outward barred kept nested exec stream run consts marker_words const_words plain_names upvalue_words error_words loop_depth stream_of_lem each_function outcome
 requests_hold = (refl, (refl, (refl, (refl, (refl, (refl, (refl, (refl, (refl, (refl, (refl, (refl, tt))))))))))))
-
-abbrev AllFill : List Filling → Type 0
-AllFill [] = Unit {0}
-AllFill (c ∷ cs) = (filled c ≡ c.flow) × AllFill cs
-
-pub fillings_hold : AllFill fillings
-unfolding guarded first next grow forest seen intern share_start index_of with_symbol with_symbols names_upto names load store steps emit bring bump halt begin finish
-    outward barred kept nested exec stream consts
-fillings_hold = (refl, (refl, (refl, (refl, (refl, (refl, (refl, tt)))))))

@@ -29,8 +29,7 @@ use Rattle.pool.proofs.ConstsLaws.{
   differ,
 }
 use Rattle.rules.specs.Marker.{ConstOp, LoadConst, Import, ImportFrom, Op, Label, To, Back, Leave, Load, Do, Mark, mark}
-use Rattle.rules.specs.Constants.{brought, consts}
-use Rattle.rules.specs.Out.{const_number, code_word, operand_word}
+use Rattle.rules.specs.Out.{brought, consts, const_number, code_word, operand_word}
 use Rattle.rules.specs.Demand.{code, operand, no_const, Constants, KnownFunction}
 use Rattle.rules.proofs.Known.{Known, KnownMark, AllKnown}
 use Rattle.rules.proofs.OnWords.{op_of, blank, words_of, code_at, operand_at}

@@ -11,7 +11,7 @@ use Rattle.tables.proofs.ForestLaws.{Each, each, each_at}
 use Rattle.pool.specs.Value.{Value, Null, same}
 use Rattle.pool.specs.Names.{Access, local, global, upvalue, missing}
 use Rattle.rules.specs.declared.StackCode.{StackCode}
-use Rattle.rules.specs.Marker.{Way, ConstOp, LoadUpvalue, Op, Label, To, Back, Leave, Load, Do, Mark, mark}
+use Rattle.rules.specs.Marker.{Way, LoadUpvalue, Op, Label, To, Back, Leave, Load, Do, Mark, mark}
 use Rattle.rules.specs.Step.{
   Role,
   Keep,
@@ -79,11 +79,9 @@ use Rattle.rules.specs.Run.{
   visits_of,
   spot_at,
   number_of,
-  bring,
 }
 use Rattle.rules.specs.declared.Flow.{Flow}
 use Rattle.rules.specs.declared.Flow.TheVariants.{Go, Cut, Refused}
-use Rattle.rules.proofs.Bring.{bring_cases}
 
 -- c added n times
 unfoldable pub rep : ℕ → ℕ → ℕ
@@ -221,9 +219,6 @@ module _ (R : Rates) where
   sought_within r u i (upvalue n) s = emit_within r (Do LoadUpvalue n) s
   sought_within r u i (missing x) s = halt_within (Refused x i) R.on_marker s
 
-  bring_within : (r : ℕ) (y : ConstOp) (v : Value) → Within (bring r y v) (op_cost (Load y v))
-  bring_within r y v s = let c = op_cost (Load y v) in bring_cases (λ u. load u ≤ load s + c) r y v s (halt_within _ c s) (emit_within r (Load y v) s)
-
   settle_within : Within settle R.on_error
   unfolding rep
   settle_within (st m l ls os Go e) = omega arith
@@ -260,7 +255,7 @@ module _ (R : Rates) where
     act_within : (x : Step) (env : List ℕ) → Within (act t o fn r w k vs body x env) (step_cost ks c x)
     unfolding outward
     act_within (push_op y x) env s = emit_within r (Do y x) s
-    act_within (push_const y p v) env s = bring_within (number_of (spot_at (tree r w k none) p)) y v s
+    act_within (push_const y p v) env s = emit_within (number_of (spot_at (tree r w k none) p)) (Load y v) s
     act_within get_label env s = bump_within s
     act_within (place i) env s = emit_within r (Label (get_or env i 0)) s
     act_within (jump h i) env s = emit_within r (To h (get_or env i 0)) s

@@ -12,8 +12,7 @@ use Rattle.pool.specs.Names.{Semantic, names}
 use Rattle.rules.specs.declared.StackCode.{StackCode}
 use Rattle.rules.specs.Marker.{Mark}
 use Rattle.rules.specs.Run.{look, Loop, Stream, Side, side, run}
-use Rattle.rules.specs.Out.{marker_words, stream_of_lem}
-use Rattle.rules.specs.Constants.{consts}
+use Rattle.rules.specs.Out.{consts, marker_words, stream_of_lem}
 use Rattle.rules.specs.Counts.{labels_counted}
 use Rattle.rules.specs.Around.{Around}
 use Rattle.rules.specs.Demand.{

@@ -10,10 +10,9 @@ use lib.Dec.{T, eqb}
 use Rattle.tables.specs.Record.{Words, words, is_do, is_loop}
 use Rattle.tables.specs.Forest.{Forest, none, tree, children, root, levels, own_tree}
 use Rattle.tables.proofs.ForestLaws.{Each, each, and_l, and_r}
-use Rattle.pool.specs.Value.{Value}
 use Rattle.pool.specs.Names.{Access, local, global, upvalue, missing}
 use Rattle.rules.specs.declared.StackCode.{StackCode}
-use Rattle.rules.specs.Marker.{Way, ConstOp, Mark}
+use Rattle.rules.specs.Marker.{Way, Mark}
 use Rattle.rules.specs.Step.{
   Role,
   Keep,
@@ -83,9 +82,7 @@ use Rattle.rules.specs.Run.{
   nothing,
   run,
   alone,
-  bring,
 }
-use Rattle.rules.proofs.Bring.{bring_both}
 use Rattle.rules.proofs.Check.{Inside, outside, within, Chk, chk, sound_at, settled, fits, next, ok, begun}
 use Rattle.rules.proofs.StepsOk.{steps_ok, stream_ok}
 use Rattle.rules.proofs.StepParts.{Pass}
@@ -105,9 +102,6 @@ pub data SameTop (i : ℕ) : State → State → Type 0 where
 
 abbrev pub Alike : ℕ → (State → State) → (State → State) → Type 0
 Alike i v v' = (s u : State) → SameTop i s u → SameTop i (v s) (v' u)
-
-same_marks : (i : ℕ) (s u : State) → SameTop i s u → marks s ≡ marks u
-same_marks i s u (same_top m l ls ls' os f e q) = refl
 
 top_fewer : (i : ℕ) (ls ls' : List Loop) → front (suc i) ls ≡ front (suc i) ls' → front i ls ≡ front i ls'
 top_fewer i ls ls' q = let g : i ≤ suc i = omega arith in sym (take-take i (suc i) ls g) ∙ ap (front i) q ∙ take-take i (suc i) ls' g
@@ -163,9 +157,6 @@ sought_alike i r y j (local n) s u c = emit_alike i _ s u c
 sought_alike i r y j (global n) s u c = emit_alike i _ s u c
 sought_alike i r y j (upvalue n) s u c = emit_alike i _ s u c
 sought_alike i r y j (missing x) s u c = halt_alike i _ s u c
-
-bring_alike : (i r : ℕ) (y : ConstOp) (v : Value) → Alike i (bring r y v) (bring r y v)
-bring_alike i r y v s u c = bring_both (SameTop i) r y v s u (same_marks i s u c) (halt_alike i _ s u c) (emit_alike i _ s u c)
 
 -- a Break or Continue looks at the newest loop only
 way_alike : (i r : ℕ) (w : Words) (x : Way) (us us' : List Loop) → 1 ≤ i → front i us ≡ front i us' → Alike i (way_out r w x us) (way_out r w x us')
@@ -254,7 +245,7 @@ module _ (sc : StackCode) (t : Lookup) (b : Bool) (n : ℕ) (fn : Words) (r : �
       (act t (newest sc b n) fn r w k vs' body' x env (st m l ls' os Go e))
   unfolding emit bump halt begin finish outward
   act_alike (push_op y x) env m l ls ls' os e c pend done free lp z q = same_top _ _ _ _ _ _ _ q
-  act_alike (push_const y p v) env m l ls ls' os e c pend done free lp z q = bring_alike (depth_in lp i) _ y v _ _ (same_top m l ls ls' os Go e q)
+  act_alike (push_const y p v) env m l ls ls' os e c pend done free lp z q = same_top _ _ _ _ _ _ _ q
   act_alike get_label env m l ls ls' os e c pend done free lp z q = same_top _ _ _ _ _ _ _ q
   act_alike (place j) env m l ls ls' os e c pend done free lp z q = same_top _ _ _ _ _ _ _ q
   act_alike (jump h j) env m l ls ls' os e c pend done free lp z q = same_top _ _ _ _ _ _ _ q

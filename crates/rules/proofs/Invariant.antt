@@ -8,11 +8,11 @@ use borrow.Author.Tests.{eqb-true, eqb-false}
 use Rattle.tables.specs.Record.{Words, is_do, is_function}
 use Rattle.tables.specs.Forest.{Forest, none, tree, Nodes, own_tree}
 use Rattle.tables.specs.declared.refusal.RunRule.{RunRule}
-use Rattle.tables.specs.declared.refusal.RunRule.TheVariants.{Skipped, Constants}
+use Rattle.tables.specs.declared.refusal.RunRule.TheVariants.{Skipped}
 use Rattle.tables.proofs.ForestLaws.{Each, each, and_r}
-use Rattle.pool.specs.Value.{Value, function}
+use Rattle.pool.specs.Value.{function}
 use Rattle.pool.specs.Names.{Access, local, global, upvalue, missing}
-use Rattle.rules.specs.Marker.{Way, ConstOp, Mark, LoadConst, Call, Pop, LoadLocals, Return}
+use Rattle.rules.specs.Marker.{Way, Mark, Call, Pop, LoadLocals, Return}
 use Rattle.rules.specs.Step.{
   Role,
   Keep,
@@ -55,7 +55,6 @@ use Rattle.rules.specs.Run.{
   flow,
   side,
   emit,
-  bring,
   bump,
   halt,
   begin,
@@ -85,7 +84,6 @@ use Rattle.rules.specs.Run.{
   visits_of,
   function_run,
 }
-use Rattle.rules.proofs.Bring.{bring_cases}
 use Rattle.rules.proofs.Visits.{visit_of}
 use Rattle.rules.proofs.StepsOk.{function_only}
 use Rattle.rules.proofs.Tame.{no_name, no_function, pure}
@@ -180,9 +178,6 @@ module _ (o : Mode) (P : List Loop → Flow → Side → Type 0) (Q : ℕ → Wo
   sought_keeps r u i (upvalue n) q s h = emit_keeps _ s h
   sought_keeps r u i (missing x) q s h = halt_keeps _ (q x) s h
 
-  bring_keeps : (r : ℕ) (c : ConstOp) (v : Value) → ((y : RunRule) → Allows (Refused y r)) → Keeps (bring r c v)
-  bring_keeps r c v q s h = bring_cases (λ u. P (loops u) (flow u) (side u)) r c v s (halt_keeps _ (q Constants) s h) (emit_keeps _ s h)
-
   settle_keeps : Keeps settle
   settle_keeps (st m l ls os Go e) h = h
   settle_keeps (st m l ls os (Cut k a b) e) h = inv.noting k a b ls e h
@@ -236,8 +231,7 @@ module _ (o : Mode) (P : List Loop → Flow → Side → Type 0) (Q : ℕ → Wo
     unfolding exec pure outward
     exec_keeps [] q env s h = h
     exec_keeps (push_op c x ∷ is) q env s h = exec_keeps is (and_r (no_name c) (pure is) q) _ _ (emit_keeps _ s h)
-    exec_keeps (push_const c p v ∷ is) q env s h =
-        exec_keeps is (and_r (no_function v) (pure is) q) _ _ (bring_keeps (number_of (spot_at (tree r w k none) p)) c v (spot_allows p) s h)
+    exec_keeps (push_const c p v ∷ is) q env s h = exec_keeps is (and_r (no_function v) (pure is) q) _ _ (emit_keeps _ s h)
     exec_keeps (get_label ∷ is) q env s h = exec_keeps is q _ _ (bump_keeps s h)
     exec_keeps (place i ∷ is) q env s h = exec_keeps is q _ _ (emit_keeps _ s h)
     exec_keeps (jump x i ∷ is) q env s h = exec_keeps is q _ _ (emit_keeps _ s h)
@@ -260,14 +254,14 @@ module _ (o : Mode) (P : List Loop → Flow → Side → Type 0) (Q : ℕ → Wo
         now : P (loops (nested o.nest r w body s)) (flow (nested o.nest r w body s)) (side (nested o.nest r w body s))
         now = nested_keeps r w here f body b o.nest s h
 
-        loaded : (let u = bring r LoadConst (function w.p) (nested o.nest r w body s) in P (loops u) (flow u) (side u))
-        loaded = bring_keeps r LoadConst (function w.p) (spot_allows []) _ now
+        after : (x : Mark) (u : State) → P (loops u) (flow u) (side u) → P (loops (emit x u)) (flow (emit x u)) (side (emit x u))
+        after x u = emit_keeps x u
 
         go : (d : Bool)
             → (let u = exec t o fn r w k vs body (cond d (inner ∷ load (function w.p) ∷ push_op Call 0 ∷ []) (inner ∷ load (function w.p) ∷ [])) [] s in
             P (loops u) (flow u) (side u))
-        go true = emit_keeps _ _ loaded
-        go false = loaded
+        go true = after _ _ (after _ _ now)
+        go false = after _ _ now
 
   module _ (t : Lookup) where
     abbrev Kept : ℕ → Words → Forest → Type 0

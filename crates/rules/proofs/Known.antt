@@ -13,7 +13,7 @@ use Rattle.tables.proofs.ForestLaws.{and_l, and_r, Each, each, each_at}
 use Rattle.pool.specs.Names.{Access, local, global, upvalue, missing}
 use Rattle.pool.specs.Value.{Value, plain, effect, function}
 use Rattle.rules.specs.declared.StackCode.{StackCode}
-use Rattle.rules.specs.Marker.{Way, Code, Pop, Call, LoadUpvalue, LoadLocals, Return, LoadConst, Op, Label, To, Back, Leave, Load, Do, Mark, mark, ConstOp}
+use Rattle.rules.specs.Marker.{Way, Code, Pop, Call, LoadUpvalue, LoadLocals, Return, LoadConst, Op, Label, To, Back, Leave, Load, Do, Mark, mark}
 use Rattle.rules.specs.Step.{
   Role,
   Expr,
@@ -90,11 +90,9 @@ use Rattle.rules.specs.Run.{
   run,
   spot_at,
   number_of,
-  bring,
 }
 use Rattle.rules.specs.declared.Flow.{Flow}
 use Rattle.rules.specs.declared.Flow.TheVariants.{Go, Cut, Refused}
-use Rattle.rules.proofs.Bring.{bring_cases}
 use Rattle.rules.proofs.StepsOk.{function_only}
 use Rattle.rules.proofs.Tame.{no_function, no_name, pure}
 use Rattle.rules.proofs.Pure.{steps_pure}
@@ -235,16 +233,6 @@ sought_keeps r u i (global n) = emit_keeps (mark r (Do (global_code u) n)) (λ n
 sought_keeps r u i (upvalue n) = emit_keeps (mark r (Do LoadUpvalue n)) (λ n. tt)
 sought_keeps r u i (missing x) = still_keeps (halt (Refused x i)) (halt_still (Refused x i))
 
--- a constant that is known where the run goes on
-bring_holds : (r : ℕ) (c : ConstOp) (v : Value) (s : State) → (flow s ≡ Go → KnownMark (side s).met (mark r (Load c v))) → Holds s → Holds (bring r c v s)
-bring_holds r c v s k h = bring_cases Holds r c v s ((still_keeps (halt _) (halt_still _)).holds s h) (emit_holds (mark r (Load c v)) s k h)
-
-bring_more : (r : ℕ) (c : ConstOp) (v : Value) (s : State) → (side s).met ≤ (side (bring r c v s)).met
-bring_more r c v s = bring_cases (λ u. (side s).met ≤ (side u).met) r c v s ((still_keeps (halt _) (halt_still _)).more s) (emit_more (mark r (Load c v)) s)
-
-bring_keeps : (r : ℕ) (c : ConstOp) (v : Value) → ((n : ℕ) → KnownMark n (mark r (Load c v))) → Keeps (bring r c v)
-bring_keeps r c v k = record { holds = λ s h. bring_holds r c v s (λ e. k (side s).met) h; more = bring_more r c v }
-
 kept_keeps : (v : State → State) → Keeps v → Keeps (kept v)
 unfolding kept
 kept_keeps v k = record { holds = holds; more = more }
@@ -313,11 +301,11 @@ module _ (r : ℕ) (w : Words) (v : State → State) (k : Keeps v) where
   nested_known (st m l ls os (Refused y q) e) g = absurd (let z : ◌≡◌ {A = ℕ} 0 1 = cc in omega arith)
 
   -- a Function's steps: its stream, then its constant, then a Do's call
-  function_keeps : Keeps (λ s. bring r LoadConst (function w.p) (nested true r w v s))
+  function_keeps : Keeps (λ s. emit (mark r (Load LoadConst (function w.p))) (nested true r w v s))
   function_keeps =
       record {
-        holds = λ s h. bring_holds r LoadConst (function w.p) (nested true r w v s) (λ e u. nested_known s e) (nested_keeps.holds s h);
-        more = λ s. omega (arith, nested_keeps.more s, bring_more r LoadConst (function w.p) (nested true r w v s));
+        holds = λ s h. emit_holds (mark r (Load LoadConst (function w.p))) (nested true r w v s) (λ e u. nested_known s e) (nested_keeps.holds s h);
+        more = λ s. omega (arith, nested_keeps.more s, emit_more (mark r (Load LoadConst (function w.p))) (nested true r w v s));
       }
 
 and_one : (b : Bool) → T b → T (b && true)
@@ -331,7 +319,7 @@ module _ (sc : StackCode) (t : Lookup) (fn : Words) (r : ℕ) (w : Words) (k : F
   unfolding pure
   act_keeps (push_op c x) env q = emit_keeps (mark r (Do c x)) (λ n. tt)
   act_keeps (push_const c p v) env q =
-      bring_keeps (number_of (spot_at (tree r w k none) p)) c v (λ n. no_known n v (and_l (no_function v) true q))
+      emit_keeps (mark (number_of (spot_at (tree r w k none) p)) (Load c v)) (λ n. no_known n v (and_l (no_function v) true q))
   act_keeps get_label env q = still_keeps bump bump_still
   act_keeps (place i) env q = emit_keeps (mark r (Label (get_or env i 0))) (λ n. tt)
   act_keeps (jump h i) env q = emit_keeps (mark r (To h (get_or env i 0))) (λ n. tt)

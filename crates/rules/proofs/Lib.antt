@@ -48,5 +48,3 @@ pub mod NameBounds
 pub mod MarkersRun
 pub mod Accepted
 pub mod Lookups
-pub mod FewConstants
-pub mod Bring

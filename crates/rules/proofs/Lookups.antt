@@ -12,7 +12,7 @@ use Rattle.tables.proofs.ForestLaws.{and_r}
 use Rattle.pool.specs.Value.{function}
 use Rattle.pool.specs.Names.{Access}
 use Rattle.rules.specs.declared.Flow.TheVariants.{Go, Cut, Refused}
-use Rattle.rules.specs.Marker.{LoadConst, Pop, LoadLocals, Call, Return, Do, mark}
+use Rattle.rules.specs.Marker.{LoadConst, Pop, LoadLocals, Call, Return, Load, Do, mark}
 use Rattle.rules.specs.Step.{
   Role,
   Expr,
@@ -45,7 +45,6 @@ use Rattle.rules.specs.Run.{
   State,
   st,
   emit,
-  bring,
   Spot,
   here,
   nowhere,
@@ -172,8 +171,8 @@ module _ (L M : Lookup) (absent-same : Nowhere L M) where
         list b = cond b (inner ∷ load (function w.p) ∷ push_op Call 0 ∷ []) (inner ∷ load (function w.p) ∷ [])
 
         go : (b : Bool) → exec L o fn r w k vs body (list b) [] s ≡ exec M o fn r w k vs' body' (list b) [] s
-        go true = ap (λ (z : State). emit (mark r (Do Call 0)) (bring r LoadConst (function w.p) z)) (nested_same o.nest r w body body' h s)
-        go false = ap (bring r LoadConst (function w.p)) (nested_same o.nest r w body body' h s)
+        go true = ap (λ (z : State). emit (mark r (Do Call 0)) (emit (mark r (Load LoadConst (function w.p))) z)) (nested_same o.nest r w body body' h s)
+        go false = ap (λ (z : State). emit (mark r (Load LoadConst (function w.p))) z) (nested_same o.nest r w body body' h s)
 
     -- the record's own paths, where the children stand in the function fn
     own_paths : (fn : Words) (r : ℕ) (w : Words) (k : Forest) → ((u : Use) → L fn u (here r w) ≡ M fn u (here r w)) → Alike L M fn k → (u : Use) (p : ChildPath)

@@ -10,11 +10,9 @@ use Rattle.tables.specs.Record.{Words, words, is_do, is_function}
 use Rattle.tables.specs.Forest.{Forest, none, tree, children, first, Nodes, bare, own_tree}
 use Rattle.tables.proofs.ForestLaws.{Genuine, genuine, Each, each}
 use Rattle.pool.specs.Names.{Access, local, global, upvalue, missing}
-use Rattle.pool.specs.Value.{Value, function}
+use Rattle.pool.specs.Value.{function}
 use Rattle.rules.specs.declared.StackCode.{StackCode}
-use Rattle.rules.specs.Marker.{Way, Mark, Pop, LoadLocals, Return, Call, ReturnCall, ConstOp}
-use Rattle.tables.specs.declared.refusal.RunRule.{RunRule}
-use Rattle.tables.specs.declared.refusal.RunRule.TheVariants.{Constants}
+use Rattle.rules.specs.Marker.{Way, Mark, Pop, LoadLocals, Return, Call, ReturnCall}
 use Rattle.rules.specs.Step.{Role, Expr, Callee, Tail, Target, Before, After, Keep, pass, keep, Use, Step}
 use Rattle.rules.specs.Step.{push_op, push_const, get_label, place, jump, jump_back, visit, begin_loop, end_loop, exit, check_return, access, refuse, inner, expr, load}
 use Rattle.rules.specs.Arms.{stream_steps, method_steps, call_steps, target_steps, before_steps, after_steps}
@@ -60,10 +58,8 @@ use Rattle.rules.specs.Run.{
   visits_of,
   nothing,
   run,
-  bring,
 }
 use Rattle.rules.specs.Out.{stream_of_lem}
-use Rattle.rules.proofs.Bring.{bring_cases}
 use Rattle.rules.proofs.Count.{inside_at}
 use Rattle.rules.proofs.StepsOk.{function_only}
 use Rattle.rules.proofs.Writes.{Clean, Clean-back, writes_clean, cut_go, refused_go, settle_same, settle_clean, entered_body, clean_back}
@@ -105,12 +101,6 @@ module _ (P : Stream → Type 0) where
   cut_told k a b n (st m l ls os (Cut k' a' b') e) c q = absurd (cut_go k' a' b' c.0)
   cut_told k a b n (st m l ls os (Refused x r) e) c q = absurd (refused_go x r c.0)
 
-  refused_told : (x : RunRule) (i n : ℕ) → Tells (halt (Refused x i)) n
-  unfolding halt
-  refused_told x i n (st m l ls os Go e) c q = absurd (refused_go x i c.0)
-  refused_told x i n (st m l ls os (Cut k a b) e) c q = absurd (cut_go k a b c.0)
-  refused_told x i n (st m l ls os (Refused y j) e) c q = absurd (refused_go y j c.0)
-
   begin_told : (trim : List Loop → List Loop) (x : Loop) → Tells (begin trim x) 0
   unfolding begin
   begin_told trim x (st m l ls os Go e) c q = (omega arith, q)
@@ -134,13 +124,13 @@ module _ (P : Stream → Type 0) where
   barred_told w false s c q = (omega arith, q)
 
   sought_told : (r : ℕ) (u : Use) (i : ℕ) (x : Access) → Tells (sought r u i x) 1
+  unfolding halt
   sought_told r u i (local n) s c q = emit_told _ s c q
   sought_told r u i (global n) s c q = emit_told _ s c q
   sought_told r u i (upvalue n) s c q = emit_told _ s c q
-  sought_told r u i (missing x) s c q = refused_told x i 1 s c q
-
-  bring_told : (r : ℕ) (y : ConstOp) (v : Value) → Tells (bring r y v) 1
-  bring_told r y v s c q = bring_cases (λ u. Clean u → Told 1 s u) r y v s (λ d. refused_told Constants r 1 s d q) (λ d. emit_told _ s d q) c
+  sought_told r u i (missing x) (st m l ls os Go e) c q = absurd (refused_go x i c.0)
+  sought_told r u i (missing x) (st m l ls os (Cut k a b) e) c q = absurd (cut_go k a b c.0)
+  sought_told r u i (missing x) (st m l ls os (Refused n j) e) c q = absurd (refused_go n j c.0)
 
   keeping_told : (y : Keep) (v : State → State) (n : ℕ) → Tells v n → Tells (keeping y v) n
   unfolding kept
@@ -219,7 +209,7 @@ module _ (P : Stream → Type 0) where
 
     act_told : (x : Step) (env : List ℕ) → Fine x → Tells (act t (full sc) fn r w k vs body x env) (step_markers ks x)
     act_told (push_op c x) env g s d q = emit_told _ s d q
-    act_told (push_const c p v) env g s d q = bring_told _ c v s d q
+    act_told (push_const c p v) env g s d q = emit_told _ s d q
     act_told get_label env g s d q = bump_told s d q
     act_told (place i) env g s d q = emit_told _ s d q
     act_told (jump h i) env g s d q = emit_told _ s d q

@@ -111,8 +111,7 @@ use Rattle.rules.specs.Step.{
 use Rattle.rules.specs.Arms.{stream_steps}
 use Rattle.rules.specs.Kinds.{steps}
 use Rattle.rules.specs.Run.{Loop, loop, drop1, label_of, Spot, here, nowhere, spot_at, look}
-use Rattle.rules.specs.Constants.{consts}
-use Rattle.rules.specs.Out.{code_word, operand_word}
+use Rattle.rules.specs.Out.{consts, code_word, operand_word}
 use Rattle.rules.specs.Demand.{code, operand, WithinFound, Captured, no_upvalue}
 use Rattle.rules.proofs.Segment.{Seg, no_seg, sought_marks, leaving, seg_code, Segs, no_segs, child_seg, seg_alg, segs_of, seg_of, body_seg}
 use Rattle.rules.proofs.StepsOk.{function_only}

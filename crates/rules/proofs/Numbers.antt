@@ -8,10 +8,9 @@ use lib.Dec.{T, eqb, eqb→eq}
 use Rattle.tables.specs.Record.{Words, words, is_do}
 use Rattle.tables.specs.Forest.{Forest, none, tree, children, own_tree}
 use Rattle.tables.proofs.ForestLaws.{Each, each, each_at}
-use Rattle.pool.specs.Value.{Value}
 use Rattle.pool.specs.Names.{Access, local, global, upvalue, missing}
 use Rattle.rules.specs.declared.StackCode.{StackCode}
-use Rattle.rules.specs.Marker.{Way, ConstOp, Mark}
+use Rattle.rules.specs.Marker.{Way, Mark}
 use Rattle.rules.specs.Step.{
   Role,
   Keep,
@@ -79,10 +78,8 @@ use Rattle.rules.specs.Run.{
   visits_of,
   nothing,
   run,
-  bring,
 }
 use Rattle.rules.specs.Out.{stream_of_lem}
-use Rattle.rules.proofs.Bring.{bring_cases}
 use Rattle.rules.proofs.Count.{one, inside, inside_add}
 use Rattle.rules.proofs.Visits.{visit_of}
 
@@ -160,9 +157,6 @@ unfolding barred
 barred_side w true s = halt_side _ s
 barred_side w false s = refl
 
-bring_side : (r : ℕ) (c : ConstOp) (v : Value) (s : State) → side (bring r c v s) ≡ side s
-bring_side r c v s = bring_cases (λ u. side u ≡ side s) r c v s (halt_side _ s) (emit_side _ s)
-
 sought_side : (r : ℕ) (u : Use) (i : ℕ) (x : Access) (s : State) → side (sought r u i x s) ≡ side s
 sought_side r u i (local n) s = emit_side _ s
 sought_side r u i (global n) s = emit_side _ s
@@ -212,7 +206,7 @@ module _ (t : Lookup) (o : Mode) (fn : Words) (r : ℕ) (w : Words) (k : Forest)
     (child-meets : (x : Role) (j : ℕ) → Meets (vs x j)) (body-meets : Meets body) where
   act_meets : (x : Step) (env : List ℕ) → Meets (act t o fn r w k vs body x env)
   act_meets (push_op c x) env s = same_side (emit_side _ s)
-  act_meets (push_const c p v) env s = same_side (bring_side _ c v s)
+  act_meets (push_const c p v) env s = same_side (emit_side _ s)
   act_meets get_label env s = same_side (bump_side s)
   act_meets (place i) env s = same_side (emit_side _ s)
   act_meets (jump h i) env s = same_side (emit_side _ s)

@@ -15,8 +15,7 @@ use Rattle.pool.specs.Names.{Semantic}
 use Rattle.rules.specs.declared.StackCode.{StackCode}
 use Rattle.rules.specs.Marker.{Mark, mark}
 use Rattle.rules.specs.Run.{Lookup, look, Error, error, Stream, side, run}
-use Rattle.rules.specs.Out.{code_word, operand_word, marker_words, const_words, error_words, line_words, stream_of_lem, each_function, out}
-use Rattle.rules.specs.Constants.{consts}
+use Rattle.rules.specs.Out.{consts, code_word, operand_word, marker_words, const_words, error_words, line_words, stream_of_lem, each_function, out}
 use Rattle.rules.proofs.Count.{one, inside_at}
 use Rattle.rules.proofs.Numbers.{numbered, run_numbered}
 use Rattle.rules.proofs.Bounds.{total, marker_count, constant_count, function_count, Bounds}

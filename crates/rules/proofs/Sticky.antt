@@ -6,9 +6,8 @@ use Prim.Native.Nat.{ℕ}
 use Rattle.tables.specs.Record.{Words, is_do}
 use Rattle.tables.specs.Forest.{Forest, none, tree, own_tree}
 use Rattle.tables.proofs.ForestLaws.{Each, each, each_at}
-use Rattle.pool.specs.Value.{Value}
 use Rattle.pool.specs.Names.{Access, local, global, upvalue, missing}
-use Rattle.rules.specs.Marker.{Way, ConstOp, Mark}
+use Rattle.rules.specs.Marker.{Way, Mark}
 use Rattle.rules.specs.Step.{
   Role,
   Keep,
@@ -67,11 +66,9 @@ use Rattle.rules.specs.Run.{
   visits_of,
   spot_at,
   number_of,
-  bring,
 }
 use Rattle.rules.specs.declared.Flow.{Flow}
 use Rattle.rules.specs.declared.Flow.TheVariants.{Go, Cut, Refused}
-use Rattle.rules.proofs.Bring.{bring_cases}
 
 -- the run does not go on
 abbrev pub Ended : Flow → Type 0
@@ -104,15 +101,6 @@ barred_sticky w true (st m l ls os (Cut k a b) e) h = refl
 barred_sticky w true (st m l ls os (Refused n q) e) h = refl
 barred_sticky w false s h = refl
 
-halt_sticky : (f : Flow) → Sticky (halt f)
-unfolding halt
-halt_sticky f (st m l ls os Go e) h = absurd h
-halt_sticky f (st m l ls os (Cut k a b) e) h = refl
-halt_sticky f (st m l ls os (Refused n q) e) h = refl
-
-pub bring_sticky : (r : ℕ) (c : ConstOp) (v : Value) → Sticky (bring r c v)
-bring_sticky r c v s h = bring_cases (λ u. u ≡ s) r c v s (halt_sticky _ s h) (emit_sticky _ s h)
-
 sought_sticky : (r : ℕ) (u : Use) (i : ℕ) (x : Access) → Sticky (sought r u i x)
 unfolding emit halt
 sought_sticky r u i x (st m l ls os Go e) h = absurd h
@@ -140,11 +128,13 @@ module _ (t : Lookup) (o : Mode) (fn : Words) (r : ℕ) (w : Words) (k : Forest)
   act_sticky (exit x) env s h = way_sticky r w x (loops s) s h
   act_sticky check_return env s h = barred_sticky w (is_do fn) s h
   act_sticky (access u p) env s h = sought_sticky r u (number_of (spot_at (tree r w k none) p)) (t fn u (spot_at (tree r w k none) p)) s h
-  act_sticky (push_const c p v) env s h = bring_sticky (number_of (spot_at (tree r w k none) p)) c v s h
   act_sticky inner env s h = nested_sticky o.nest r w body s h
   act_sticky (push_op c x) env (st m l ls os Go e) h = absurd h
   act_sticky (push_op c x) env (st m l ls os (Cut y a b) e) h = refl
   act_sticky (push_op c x) env (st m l ls os (Refused n q) e) h = refl
+  act_sticky (push_const c p v) env (st m l ls os Go e) h = absurd h
+  act_sticky (push_const c p v) env (st m l ls os (Cut y a b) e) h = refl
+  act_sticky (push_const c p v) env (st m l ls os (Refused n q) e) h = refl
   act_sticky get_label env (st m l ls os Go e) h = absurd h
   act_sticky get_label env (st m l ls os (Cut y a b) e) h = refl
   act_sticky get_label env (st m l ls os (Refused n q) e) h = refl

@@ -9,9 +9,7 @@ use Rattle.tables.specs.Forest.{guarded, first, next, grow, forest, children, ro
 use Rattle.rules.specs.declared.StackCode.{StackCode}
 use Rattle.rules.specs.declared.StackCode.TheVariants.{Code1}
 use Rattle.rules.specs.Kinds.{steps}
-use Rattle.rules.specs.Run.{look, side, emit, bump, halt, begin, finish, outward, barred, kept, nested, exec, stream, function_run, nothing, run, bring}
-use Rattle.pool.specs.Value.{seen, intern}
-use Rattle.rules.specs.Constants.{consts}
+use Rattle.rules.specs.Run.{look, side, emit, bump, halt, begin, finish, outward, barred, kept, nested, exec, stream, function_run, nothing, run}
 use Rattle.rules.specs.Cases.{frame, empty}
 use Rattle.rules.proofs.Stack.{newest}
 
@@ -45,14 +43,14 @@ unfolding guarded first next grow forest
 six_levels = refl
 
 pub all_kept : length (side (run Code1 (look empty) (left_open 2))).errors ≡ 1
-unfolding guarded first next grow forest steps emit bump halt begin finish outward barred kept nested exec stream run bring consts seen intern
+unfolding guarded first next grow forest steps emit bump halt begin finish outward barred kept nested exec stream run
 all_kept = refl
 
 pub four_kept : errors_kept 4 (left_open 2) ≡ 1
-unfolding guarded first next grow forest steps emit bump halt begin finish outward barred kept nested exec stream bring consts seen intern
+unfolding guarded first next grow forest steps emit bump halt begin finish outward barred kept nested exec stream
 four_kept = refl
 
 -- the Break finds no loop
 pub three_kept : errors_kept 3 (left_open 2) ≡ 2
-unfolding guarded first next grow forest steps emit bump halt begin finish outward barred kept nested exec stream bring consts seen intern
+unfolding guarded first next grow forest steps emit bump halt begin finish outward barred kept nested exec stream
 three_kept = refl

@@ -9,12 +9,11 @@ use lib.Dec.{T, eqb, eqb→eq}
 use Rattle.tables.specs.Record.{Words, is_do}
 use Rattle.tables.specs.Forest.{Forest, none, tree}
 use Rattle.tables.specs.declared.refusal.RunRule.{RunRule}
-use Rattle.tables.specs.declared.refusal.RunRule.TheVariants.{Skipped, Constants}
+use Rattle.tables.specs.declared.refusal.RunRule.TheVariants.{Skipped}
 use Rattle.tables.proofs.ForestLaws.{and_r}
-use Rattle.pool.specs.Value.{Value}
 use Rattle.pool.specs.Names.{Access, local, global, upvalue, missing}
 use Rattle.rules.specs.declared.StackCode.{StackCode}
-use Rattle.rules.specs.Marker.{Way, ConstOp, Mark, Load, mark}
+use Rattle.rules.specs.Marker.{Way, Mark}
 use Rattle.rules.specs.Step.{
   Role,
   Keep,
@@ -80,9 +79,7 @@ use Rattle.rules.specs.Run.{
   full,
   act,
   exec,
-  bring,
 }
-use Rattle.rules.proofs.Bring.{bring_cases}
 use Rattle.rules.proofs.Segment.{Seg, no_seg, sought_marks, leaving, finished, seg_code, seg_count, seg_log, seg_funs, seg_made, step_seg}
 use Rattle.rules.proofs.Check.{has, del, Inside, outside, within, is_out, chk, sound_at, settled, ok, begun, stack}
 
@@ -168,9 +165,6 @@ sought_clean r u i (global n) s c = emit_clean _ s c
 sought_clean r u i (upvalue n) s c = emit_clean _ s c
 sought_clean r u i (missing x) s c = halt_clean _ s c
 
-bring_clean : (r : ℕ) (y : ConstOp) (v : Value) → Clean-back (bring r y v)
-bring_clean r y v s c = bring_cases (λ u. Clean u → Clean s) r y v s (halt_clean _ s) (emit_clean _ s) c
-
 -- settling keeps an error, so a clean end was not settled
 pub settle_same : (s : State) → Clean (settle s) → settle s ≡ s
 settle_same (st m l ls os Go e) c = refl
@@ -214,7 +208,7 @@ module _ (t : Lookup) (o : Mode) (fn : Words) (r : ℕ) (w : Words) (k : Forest)
     (child-clean : (x : Role) (j : ℕ) → Clean-back (vs x j)) (Body-Clean : Clean-back body) where
   pub act_clean : (x : Step) (env : List ℕ) → Clean-back (act t o fn r w k vs body x env)
   act_clean (push_op c x) env s d = emit_clean _ s d
-  act_clean (push_const c p v) env s d = bring_clean _ c v s d
+  act_clean (push_const c p v) env s d = emit_clean _ s d
   act_clean get_label env s d = bump_clean s d
   act_clean (place i) env s d = emit_clean _ s d
   act_clean (jump h i) env s d = emit_clean _ s d
@@ -254,12 +248,6 @@ sought_same r u i (local n) m l ls os e c = refl
 sought_same r u i (global n) m l ls os e c = refl
 sought_same r u i (upvalue n) m l ls os e c = refl
 sought_same r u i (missing x) m l ls os e c = absurd (refused_go x i c.0)
-
-bring_same : (r : ℕ) (y : ConstOp) (v : Value) (m : List Mark) (l : ℕ) (ls os : List Loop) (e : Side) → Clean (bring r y v (st m l ls os Go e))
-    → bring r y v (st m l ls os Go e) ≡ st (mark r (Load y v) ∷ m) l ls os Go e
-unfolding emit halt
-bring_same r y v m l ls os e c =
-    bring_cases (λ u. Clean u → u ≡ st (mark r (Load y v) ∷ m) l ls os Go e) r y v (st m l ls os Go e) (λ d. absurd (refused_go Constants r d.0)) (λ d. refl) c
 
 outward_same : (r : ℕ) (w : Words) (x : Way) (m : List Mark) (l : ℕ) (ls os : List Loop) (e : Side) → Clean (outward r w x (st m l ls os Go e))
     → outward r w x (st m l ls os Go e) ≡ st (reverse_aux (leaving r x ls) m) l ls os Go e
@@ -311,11 +299,7 @@ module _ (sc : StackCode) (t : Lookup) (fn : Words) (r : ℕ) (w : Words) (k : F
   exec_run (x ∷ is) env (st m l ls os (Cut i j b) e) n pend done free lp outer q h c = absurd (cut_go i j b (full_back (x ∷ is) env (st m l ls os (Cut i j b) e) c).0)
   exec_run (x ∷ is) env (st m l ls os (Refused y j) e) n pend done free lp outer q h c = absurd (refused_go y j (full_back (x ∷ is) env (st m l ls os (Refused y j) e) c).0)
   exec_run (push_op y x ∷ is) env (st m l ls os Go e) n pend done free lp outer q h c = exec_run is env _ n pend done free lp outer q h c
-  exec_run (push_const y p v ∷ is) env (st m l ls os Go e) n pend done free lp outer q h c =
-      let i = number_of (spot_at (tree r w k none) p) in
-      let z = bring_same i y v m l ls os e (full_back is env (bring i y v (st m l ls os Go e)) c) in
-      ap (exec t (full sc) fn r w k vs body is env) z
-      ∙ exec_run is env (st (mark i (Load y v) ∷ m) l ls os Go e) n pend done free lp outer q h (subst (λ (u : State). Clean (exec t (full sc) fn r w k vs body is env u)) z c)
+  exec_run (push_const y p v ∷ is) env (st m l ls os Go e) n pend done free lp outer q h c = exec_run is env _ n pend done free lp outer q h c
   exec_run (get_label ∷ is) env (st m l ls os Go e) n pend done free outside outer q h c =
       let z : l + suc (seg_count t fn r w k ks g is) ≡ suc l + seg_count t fn r w k ks g is = omega arith in
       rw z (exec_run is (env ++ (l ∷ [])) (st m (suc l) ls os Go e) (suc n) (n ∷ pend) done (n ∷ free) outside outer q h c)

@@ -13,8 +13,7 @@ use Rattle.pool.specs.Names.{Semantic, Names, Upvalue, names, parent}
 use Rattle.rules.specs.declared.StackCode.{StackCode}
 use Rattle.rules.specs.Marker.{Mark, mark, Op, Label}
 use Rattle.rules.specs.Run.{Loop, loop, Stream, Side}
-use Rattle.rules.specs.Constants.{consts}
-use Rattle.rules.specs.Out.{marker_words, stream_of_lem}
+use Rattle.rules.specs.Out.{consts, marker_words, stream_of_lem}
 use Rattle.rules.specs.Around.{Around}
 use Rattle.rules.specs.Counts.{labels_counted}
 

@@ -3,7 +3,6 @@ pub mod Step
 pub mod Arms
 pub mod Patterns
 pub mod Kinds
-pub mod Constants
 pub mod Run
 pub mod Out
 pub mod Around

@@ -3,7 +3,7 @@ use Rattle.std.specs.Prelude.{Bool, true, false, cond, List, [], ◌∷◌, ◌+
 use Rattle.tables.specs.Record.{Words, is_loop}
 use Rattle.tables.specs.Forest.{Nodes, bare, node, own_tree, children}
 use Rattle.tables.specs.declared.refusal.RunRule.{RunRule}
-use Rattle.pool.specs.Value.{Const, find, kind_word, low_word, high_word}
+use Rattle.pool.specs.Value.{Value, plain, effect, Const, find, intern, start, kind_word, low_word, high_word}
 use Rattle.pool.specs.Names.{Semantic, Names, Upvalue, names}
 use Rattle.rules.specs.declared.StackCode.{StackCode}
 use Rattle.rules.specs.Marker.{
@@ -72,7 +72,6 @@ use Rattle.rules.specs.Marker.{
   mark,
 }
 use Rattle.rules.specs.Run.{Error, error, Loop, Stream, Side, State, side, flow, look, run}
-use Rattle.rules.specs.Constants.{consts}
 use Rattle.rules.specs.declared.Flow.{Flow}
 use Rattle.rules.specs.declared.Flow.TheVariants.{Go, Cut, Refused}
 
@@ -134,6 +133,24 @@ code_number ReturnCall = 38
 code_number LoadLocals = 39
 code_number CheckEffect = 50
 code_number MarkAddStackSize = 51
+
+-- "7 Effect, the Effect or Handler record first bringing it": the record counts for an effect alone
+abbrev pub source_of : ℕ → Value → ℕ
+source_of r (plain k p q) = 0
+source_of r (effect n ps v) = r
+
+abbrev pub brought : ℕ → Value → Const
+brought r v = record { value = v; source = source_of r v }
+
+-- the constants that some markers, newest first, name, in order of first use
+unfoldable pub consts : List Mark → List Const
+consts [] = start
+consts (mark r (Label l) ∷ ms) = consts ms
+consts (mark r (To h l) ∷ ms) = consts ms
+consts (mark r (Back l) ∷ ms) = consts ms
+consts (mark r (Leave x l) ∷ ms) = consts ms
+consts (mark r (Load c v) ∷ ms) = intern (consts ms) (brought r v)
+consts (mark r (Do c n) ∷ ms) = consts ms
 
 -- "markers (code, operand or 0)"
 abbrev pub code_word : Op → ℕ

@@ -1,16 +1,9 @@
 -- Small cases worked by hand from the texts of document 02, which the Rust cannot judge. Definitions only; proofs/CasesHold computes them.
-use Rattle.std.specs.Prelude.{List, [], ◌∷◌, ◌++◌, ℕ, zero, suc}
-use Rattle.tables.specs.Record.{words}
-use Rattle.tables.specs.Forest.{children}
-use Rattle.tables.specs.declared.refusal.RunRule.TheVariants.{Operator, Constants}
-use Rattle.pool.specs.Value.{int}
+use Rattle.std.specs.Prelude.{List, [], ◌∷◌, ◌++◌, ℕ}
 use Rattle.pool.specs.Names.{Semantic}
+use Rattle.tables.specs.declared.refusal.RunRule.TheVariants.{Operator}
 use Rattle.rules.specs.declared.StackCode.{StackCode}
 use Rattle.rules.specs.declared.StackCode.TheVariants.{Code1, Code2}
-use Rattle.rules.specs.declared.Flow.{Flow}
-use Rattle.rules.specs.declared.Flow.TheVariants.{Go, Refused}
-use Rattle.rules.specs.Marker.{LoadConst, Load, Mark, mark}
-use Rattle.rules.specs.Run.{st, flow, look, full, stream, visits_of}
 use Rattle.rules.specs.Out.{Outcome, listed, refused}
 use Rattle.rules.specs.Cases.{frame, empty, null_const, case_h, case_i}
 
@@ -115,60 +108,3 @@ methods =
 
 abbrev pub requests : List Request
 requests = shorts ++ (returns ++ (members ++ methods))
-
--- job 2: a function that has loaded the Ints 1 to `loaded`, the next free function number being 1, goes on with the body of `records`
-pub record Filling : Type 0 where
-  pub loaded : ℕ
-  pub tables : Semantic
-  pub records : List ℕ
-  pub flow : Flow
-
-abbrev pub ints : ℕ → List Mark
-ints zero = []
-ints (suc n) = mark (suc n) (Load LoadConst (int (suc n))) ∷ ints n
-
-abbrev pub filled : Filling → Flow
-filled x =
-    let t = look x.tables in
-    let k = children x.records 0 in
-    flow (stream t (full Code1) 0 (words x.records 0) k (visits_of t (full Code1) k) (st (ints x.loaded) 0 [] [] Go (record { errors = []; met = 1; streams = [] })))
-
--- `[255, b]`: a List with two Lits, 4 and 5
-abbrev pub list_of : ℕ → List ℕ
-list_of b = frame 0 3 (8 ∷ 0 ∷ 0 ∷ 0 ∷ 0 ∷ 0 ∷ 4 ∷ 0 ∷ 1 ∷ 2 ∷ 255 ∷ 0 ∷ 0 ∷ 0 ∷ 0 ∷ 5 ∷ 1 ∷ 2 ∷ b ∷ 0 ∷ 0 ∷ 0 ∷ 0 ∷ 0 ∷ [])
-
--- a Fn with an empty Function, 4
-abbrev pub fn_of : List ℕ
-fn_of =
-    frame 0 3
-    (5 ∷ 0 ∷ 0 ∷ 0 ∷ 0 ∷ 0 ∷ 4 ∷ 0 ∷ 30 ∷ 0 ∷ 1 ∷ 4294967295 ∷ 0 ∷ 0 ∷ 5 ∷ 0 ∷ 31 ∷ 0 ∷ 0 ∷ 0 ∷ 0 ∷ 0 ∷ 0 ∷ 6 ∷ 4 ∷ 0 ∷ 0 ∷ 0 ∷ 0 ∷ 0 ∷ 0 ∷ 0 ∷ [])
-
--- `for x in null {}`
-abbrev pub for_of : List ℕ
-for_of =
-    frame 0 3
-    (18 ∷ 0 ∷ 1 ∷ 0 ∷ 0 ∷ 0 ∷ 4 ∷ 0 ∷ 2 ∷ 0 ∷ 0 ∷ 0 ∷ 0 ∷ 0 ∷ 0 ∷ 5 ∷ 1 ∷ 0 ∷ 0 ∷ 0 ∷ 0 ∷ 0 ∷ 0 ∷ 6 ∷ 4 ∷ 0 ∷ 0 ∷ 0 ∷ 0 ∷ 0 ∷ 0 ∷ 0 ∷ [])
-
--- an Import of all that path string 0 has
-abbrev pub import_of : List ℕ
-import_of = frame 0 3 (22 ∷ 3 ∷ 0 ∷ 0 ∷ 0 ∷ 0 ∷ 0 ∷ 0 ∷ [])
-
--- a Match of null, 4, with a Case, 5: the empty List pattern, 6, and null, 7
-abbrev pub match_of : List ℕ
-match_of =
-    frame 0 3
-    (15 ∷ 0 ∷ 0 ∷ 0 ∷ 0 ∷ 0 ∷ 4 ∷ 0 ∷ 1 ∷ 0 ∷ 0 ∷ 0 ∷ 0 ∷ 0 ∷ 0 ∷ 5 ∷ 33 ∷ 0 ∷ 1 ∷ 0 ∷ 0 ∷ 0 ∷ 6 ∷ 0
-    ∷ 38 ∷ 0 ∷ 0 ∷ 0 ∷ 0 ∷ 0 ∷ 0 ∷ 7 ∷ 1 ∷ 0 ∷ 0 ∷ 0 ∷ 0 ∷ 0 ∷ 0 ∷ 0 ∷ [])
-
--- "at the record that would bring the 257th different constant"; "A length, an index or Yield is brought by its Table, List, For or AssignUnpack, any other
--- constant by the Lit, Function, Effect, Handler, Import or Ident that holds it"
-abbrev pub fillings : List Filling
-fillings =
-    record { loaded = 254; tables = empty; records = list_of 7; flow = Go }
-    ∷ record { loaded = 254; tables = empty; records = list_of 256; flow = Refused Constants 5 }
-    ∷ record { loaded = 255; tables = one_local; records = member_got 1; flow = Refused Constants 5 }
-    ∷ record { loaded = 255; tables = empty; records = fn_of; flow = Refused Constants 4 }
-    ∷ record { loaded = 255; tables = one_local; records = for_of; flow = Refused Constants 3 }
-    ∷ record { loaded = 255; tables = empty; records = import_of; flow = Refused Constants 3 }
-    ∷ record { loaded = 255; tables = empty; records = match_of; flow = Refused Constants 6 }
-    ∷ []

@@ -3,14 +3,12 @@ use Rattle.std.specs.Prelude.{Bool, true, false, cond, List, [], ◌∷◌, ◌+
 use Rattle.tables.specs.Record.{Words, words, is_do, is_function, is_ident}
 use Rattle.tables.specs.Forest.{Forest, none, tree, forest, children, fold, own_tree}
 use Rattle.tables.specs.declared.refusal.RunRule.{RunRule}
-use Rattle.tables.specs.declared.refusal.RunRule.TheVariants.{Reference, Skipped, Constants}
-use Rattle.pool.specs.Value.{Value}
+use Rattle.tables.specs.declared.refusal.RunRule.TheVariants.{Reference, Skipped}
 use Rattle.pool.specs.Names.{Semantic, Access, local, global, upvalue, missing, load as load-name, store as store-name}
 use Rattle.rules.specs.Marker.{
   Way,
   Break,
   Continue,
-  ConstOp,
   Code,
   LoadLocal,
   LoadGlobal,
@@ -52,7 +50,6 @@ use Rattle.rules.specs.Step.{
   refuse,
   inner,
 }
-use Rattle.rules.specs.Constants.{no_room}
 use Rattle.rules.specs.Arms.{stream_steps}
 use Rattle.rules.specs.Kinds.{steps}
 use Rattle.rules.specs.declared.StackCode.{StackCode}
@@ -120,14 +117,6 @@ unfoldable pub halt : Flow → State → State
 halt f (st m l ls os Go e) = st m l ls os f e
 halt f (st m l ls os (Cut k a b) e) = st m l ls os (Cut k a b) e
 halt f (st m l ls os (Refused n r) e) = st m l ls os (Refused n r) e
-
--- push_load_const, and add_const with another opcode: the constant that record r brings is named, or there is no place for it (number 17)
-abbrev pub bring_by : Bool → ℕ → ConstOp → Value → State → State
-bring_by true r c v s = halt (Refused Constants r) s
-bring_by false r c v s = emit (mark r (Load c v)) s
-
-unfoldable pub bring : ℕ → ConstOp → Value → State → State
-bring r c v s = bring_by (no_room (marks s) v) r c v s
 
 -- continue_stack().push and break_stack().push; `trim` says how much of the stack is kept
 unfoldable pub begin : (List Loop → List Loop) → Loop → State → State
@@ -272,7 +261,7 @@ full sc = record { code = sc; nest = true; trim = λ ls. ls }
 module _ (t : Lookup) (o : Mode) (fn : Words) (r : ℕ) (w : Words) (k : Forest) (vs : Role → ℕ → State → State) (body : State → State) where
   abbrev pub act : Step → List ℕ → State → State
   act (push_op c x) env = emit (mark r (Do c x))
-  act (push_const c p v) env = bring (number_of (spot_at (tree r w k none) p)) c v
+  act (push_const c p v) env = emit (mark (number_of (spot_at (tree r w k none) p)) (Load c v))
   act get_label env = bump
   act (place i) env = emit (mark r (Label (get_or env i 0)))
   act (jump h i) env = emit (mark r (To h (get_or env i 0)))

@@ -1,9 +1,9 @@
--- The numbers and places of document 01's table 'Refused by place'; 17 is document 02's, job 2. Definitions only.
+-- The numbers and places of document 01's table 'Refused by place'. Definitions only.
 use Rattle.std.specs.Prelude.{cond, ℕ, eqb}
 use Rattle.tables.specs.declared.refusal.RecordRule.{RecordRule}
 use Rattle.tables.specs.declared.refusal.RecordRule.TheVariants.{Detail, Link, Children, Naming, Nesting, Numbering}
 use Rattle.tables.specs.declared.refusal.RunRule.{RunRule}
-use Rattle.tables.specs.declared.refusal.RunRule.TheVariants.{Reference, Load, Store, Operator, Lengths, Path, Skipped, Constants}
+use Rattle.tables.specs.declared.refusal.RunRule.TheVariants.{Reference, Load, Store, Operator, Lengths, Path, Skipped}
 use Rattle.tables.specs.declared.refusal.Refusal.{Refusal}
 use Rattle.tables.specs.declared.refusal.Refusal.TheVariants.{Table, Space, Entry, Record, Run}
 
@@ -23,13 +23,12 @@ run_number Operator = 13
 run_number Lengths = 14
 run_number Path = 15
 run_number Skipped = 16
-run_number Constants = 17
 
 -- and back
 abbrev pub rule_of : ℕ → RunRule
 rule_of n =
     cond (eqb n 10) Reference
-    (cond (eqb n 11) Load (cond (eqb n 12) Store (cond (eqb n 13) Operator (cond (eqb n 14) Lengths (cond (eqb n 15) Path (cond (eqb n 16) Skipped Constants))))))
+    (cond (eqb n 11) Load (cond (eqb n 12) Store (cond (eqb n 13) Operator (cond (eqb n 14) Lengths (cond (eqb n 15) Path Skipped)))))
 
 abbrev pub number_of : Refusal → ℕ
 number_of (Table n) = 1

@@ -13,7 +13,7 @@ pub enum RecordRule {
     Numbering,
 }
 
-// The rules that a run meets broken: numbers 10 to 17.
+// The rules that a run meets broken: numbers 10 to 16.
 #[derive(Drop)]
 pub enum RunRule {
     Reference,
@@ -23,7 +23,6 @@ pub enum RunRule {
     Lengths,
     Path,
     Skipped,
-    Constants,
 }
 
 // A refusal holds where it arose: a lent table, an output space, a table's entry, a record, or a record met in the run.
@@ -74,7 +73,6 @@ pub fn run_number(rule: RunRule) -> u32
         RunRule::Lengths => 14,
         RunRule::Path => 15,
         RunRule::Skipped => 16,
-        RunRule::Constants => 17,
     }
 }
 
@@ -89,8 +87,7 @@ pub fn run_rule(number: u32) -> RunRule
         13 => RunRule::Operator,
         14 => RunRule::Lengths,
         15 => RunRule::Path,
-        16 => RunRule::Skipped,
-        _ => RunRule::Constants,
+        _ => RunRule::Skipped,
     }
 }
 

@@ -49,7 +49,7 @@ next_of recs e q = e ∙ ap (λ (z : ℕ). next recs z) q
 abbrev pub ident_at : List ℕ → ℕ → ℕ → Spot
 ident_at recs r j = spot_at (tree r (words recs r) (children recs r) none) (j ∷ [])
 
-module _ {e : Lent} (z : Scoped e) {c : Walk} {o₀ : List ℕ} {A : State} {o o' : Outs} {w w' : List ℕ} where
+module _ {e : Lent} (z : Scoped e) {c : Walk} {o₀ : Outs} {A : State} {o o' : Outs} {w w' : List ℕ} where
   pub visited : (a : Role) {x y : ℕ} → x ≡ y → Sim e o w o' w' (λ c. visit_in e c a x) → Rep c e.records o₀ A o w → Rep c e.records o₀ (visit_in e c a y A) o' w'
   visited a q h k = subst (λ (b : ℕ). Rep c e.records o₀ (visit_in e c a b A) o' w') q (h.sim z c o₀ A k)
 
@@ -60,7 +60,7 @@ module _ {e : Lent} (z : Scoped e) {c : Walk} {o₀ : List ℕ} {A : State} {o o
       (subst (λ (x : ℕ). Rep c e.records o₀ (through e c Expr x l A) o' w') p (h.sim z c o₀ A k))
 
 -- the Ident at child j, loaded or stored to
-module _ {e : Lent} (z : Scoped e) {c : Walk} {o₀ : List ℕ} {A : State} {o o' cs w w' : List ℕ} where
+module _ {e : Lent} (z : Scoped e) {c : Walk} {o₀ : Outs} {A : State} {o o' cs w w' : List ℕ} where
   pub used : (r j : ℕ) (u : Use) {i : ℕ} → i ≡ nth e.records j (first e.records r) → Uses o w o' w' u i (access_noted e.notes u i)
       → Rep c e.records o₀ A (outs o cs) w
       → Rep c e.records o₀ (sought r u (number_of (ident_at e.records r j)) (noted_look e.notes (words e.records c.function) u (ident_at e.records r j)) A) (outs o' cs) w'
@@ -135,7 +135,7 @@ property_same {m} n q k is = go (ltb n 3) refl
         none_of : (i : ℕ) → 3 ≤ i → property i k is ≡ is
         none_of i h = on_false (eqb i 0) _ _ (ne_eqb i 0 (λ y. omega arith)) ∙ on_false (ltb i 3) _ _ (le-ltb i 3 h)
 
-module _ {e : Lent} (z : Scoped e) {c : Walk} {o₀ : List ℕ} {A : State} {o o' : Outs} {w w' : List ℕ} where
+module _ {e : Lent} (z : Scoped e) {c : Walk} {o₀ : Outs} {A : State} {o o' : Outs} {w w' : List ℕ} where
   -- the property of a record's own member, which is number n
   pub propped : (r n : ℕ) {m : MemberKind} → m ≡ member_of n
       → Sim e o w o' w' (λ c. does e c r (property_steps m (words e.records r) (own_tree (children e.records r)))) → Rep c e.records o₀ A o w
@@ -143,14 +143,14 @@ module _ {e : Lent} (z : Scoped e) {c : Walk} {o₀ : List ℕ} {A : State} {o o
   propped r n q h k =
       subst (λ (is : List Step). Rep c e.records o₀ (does e c r is A) o' w') (property_same n q (own_tree (children e.records r)) []) (h.sim z c o₀ A k)
 
-module _ {c : Walk} {records o₀ : List ℕ} {A : State} {o w o' w' cs : List ℕ} (r n : ℕ) {m : MemberKind} (q : m ≡ member_of n) where
+module _ {c : Walk} {records : List ℕ} {o₀ : Outs} {A : State} {o w o' w' cs : List ℕ} (r n : ℕ) {m : MemberKind} (q : m ≡ member_of n) where
   pub got : Pushes o w o' w' (op_words (get_of m)) → Rep c records o₀ A (outs o cs) w → Rep c records o₀ (emit (mark r (Do (get_code n) 0)) A) (outs o' cs) w'
   got k h = said r (get_code n) 0 refl refl (subst (λ x. Pushes o w o' w' x) (get_words n q) k) h
 
   pub was_set : Pushes o w o' w' (op_words (set_of m)) → Rep c records o₀ A (outs o cs) w → Rep c records o₀ (emit (mark r (Do (set_code n) 0)) A) (outs o' cs) w'
   was_set k h = said r (set_code n) 0 refl refl (subst (λ x. Pushes o w o' w' x) (set_words n q) k) h
 
-pub unary : {c : Walk} {records o₀ : List ℕ} {A : State} {o w o' w' cs : List ℕ} (r d : ℕ) {x : UnOp} → x ≡ unary_of d → Pushes o w o' w' (op_words (from_un_op x))
+pub unary : {c : Walk} {records : List ℕ} {o₀ : Outs} {A : State} {o w o' w' cs : List ℕ} (r d : ℕ) {x : UnOp} → x ≡ unary_of d → Pushes o w o' w' (op_words (from_un_op x))
     → Rep c records o₀ A (outs o cs) w → Rep c records o₀ (emit (mark r (Do (unary_code d) 0)) A) (outs o' cs) w'
 unary {o = o} {w} {o'} {w'} r d q k h = said r (unary_code d) 0 refl refl (subst (λ x. Pushes o w o' w' x) (ap (λ (x : UnOp). op_words (from_un_op x)) q ∙ unary_words d) k) h
 
@@ -159,7 +159,7 @@ pub cap_word : (n : ℕ) → n ≤ limit → n ≡ cap n
 cap_word n le = omega arith
 
 -- the stack code of the walk, as the code tests it
-pub label_test : {c : Walk} {records o₀ : List ℕ} {o : Outs} {A : State} {w : List ℕ} {b : Bool} (d : ℕ) → Rep c records o₀ A o w → b ≡ unlabelled (code_in (at w)) d
+pub label_test : {c : Walk} {records : List ℕ} {o₀ o : Outs} {A : State} {w : List ℕ} {b : Bool} (d : ℕ) → Rep c records o₀ A o w → b ≡ unlabelled (code_in (at w)) d
     → unlabelled c.code d ≡ b
 label_test d h q = ap (λ (s : StackCode). unlabelled s d) (sym h.reads.stack) ∙ sym q
 

@@ -18,24 +18,7 @@ use Rattle.rules.specs.declared.StackCode.{StackCode}
 use Rattle.rules.specs.declared.StackCode.TheVariants.{Code1, Code2}
 use Rattle.rules.specs.declared.Flow.TheVariants.{Go, Cut, Refused}
 use Rattle.rules.specs.Marker as rule
-use Rattle.rules.specs.Marker.{
-  Forward,
-  Jump,
-  JumpIfTrueOrPop,
-  JumpIfFalseOrPop,
-  LoadConst,
-  Code,
-  Pop,
-  Copy,
-  Call,
-  Return,
-  MarkAddStackSize,
-  Label,
-  To,
-  Do,
-  mark,
-  RegisterHandler,
-}
+use Rattle.rules.specs.Marker.{Forward, Jump, JumpIfTrueOrPop, JumpIfFalseOrPop, LoadConst, Code, Pop, Copy, Call, Return, MarkAddStackSize, Label, To, Load, Do, mark}
 use Rattle.rules.specs.Step.{
   Role,
   Expr,
@@ -94,10 +77,10 @@ use Rattle.rules.specs.Arms.{
 }
 use Rattle.rules.specs.Kinds.{steps}
 use Rattle.rules.specs.Patterns.{match_steps}
-use Rattle.rules.specs.Run.{State, flow, labels, emit, bring, bump, halt, barred, begin, loop, exec}
+use Rattle.rules.specs.Run.{State, flow, labels, emit, bump, halt, barred, begin, loop, exec}
 use Rattle.emit.specs.Rep.{Walk, mode, Lent}
 use Rattle.emit.specs.Does.{nth, visit_in, near, doing, does, through}
-use Rattle.emit.proofs.Basics.{is_go, on_true, on_false, is_go_lem, no_emit, no_bring}
+use Rattle.emit.proofs.Basics.{is_go, on_true, on_false, is_go_lem, no_emit}
 use Rattle.emit.proofs.RepLaws.{bumps}
 use Rattle.emit.proofs.VisitLaws.{visit_does}
 use Rattle.emit.proofs.PartLaws.{visits_part}
@@ -189,23 +172,23 @@ module _ (e : Lent) (c : Walk) (r : ℕ) where
 
   pub unpack_run : {n : ℕ} → n ≡ W.p → (A : State)
       → does e c r (assign_unpack_steps W K) A
-      ≡ bring r LoadConst Null (unpacks e c r 0 n (first R r) (repeated (mark r (Do Copy 1)) (n - 1) (near e c r Expr W.p A)))
+      ≡ emit (mark r (Load LoadConst Null)) (unpacks e c r 0 n (first R r) (repeated (mark r (Do Copy 1)) (n - 1) (near e c r Expr W.p A)))
   unfolding does doing exec
   unpack_run q A =
       let B = near e c r Expr W.p A in
       says_part e c r (W.p - 1) Copy 1 (unpacked 0 W.p (null ∷ [])) [] B
       ∙ unpacked_part e c r 0 W.p (null ∷ []) [] (repeated (mark r (Do Copy 1)) (W.p - 1) B)
-      ∙ ap (λ (m : ℕ). bring r LoadConst Null (unpacks e c r 0 m (first R r) (repeated (mark r (Do Copy 1)) (m - 1) B))) (sym q)
+      ∙ ap (λ (m : ℕ). emit (mark r (Load LoadConst Null)) (unpacks e c r 0 m (first R r) (repeated (mark r (Do Copy 1)) (m - 1) B))) (sym q)
 
   pub multi_yes : {n : ℕ} → n ≡ W.p → W.p + W.p ≡ width K → (A : State)
       → does e c r (assign_multi_steps W K) A
-      ≡ bring r LoadConst Null (downs e c r n (through e c Expr W.p (nth R W.p (first R r)) A))
+      ≡ emit (mark r (Load LoadConst Null)) (downs e c r n (through e c Expr W.p (nth R W.p (first R r)) A))
   unfolding does doing exec
   multi_yes p q A =
       ap (λ (is : List Step). does e c r is A) (on_true (eqb (W.p + W.p) (width K)) _ _ (eq-eqb _ _ q))
       ∙ visits_part e c r Expr W.p W.p (visits_down Target W.p (null ∷ [])) [] A
       ∙ down_part e c r W.p (null ∷ []) [] (through e c Expr W.p (nth R W.p (first R r)) A)
-      ∙ ap (λ (m : ℕ). bring r LoadConst Null (downs e c r m (through e c Expr W.p (nth R W.p (first R r)) A))) (sym p)
+      ∙ ap (λ (m : ℕ). emit (mark r (Load LoadConst Null)) (downs e c r m (through e c Expr W.p (nth R W.p (first R r)) A))) (sym p)
 
   pub multi_no : (W.p + W.p ≡ width K → ⊥) → (A : State) → does e c r (assign_multi_steps W K) A ≡ halt (Refused Lengths r) A
   unfolding does doing exec
@@ -363,7 +346,7 @@ module _ (e : Lent) (c : Walk) (r : ℕ) where
 
   pub update_run : is_short_lem W.detail K ≡ false → (A : State)
       → does e c r (assign_op_steps W K) A
-      ≡ bring r LoadConst Null (near e c r After 0 (operated (near e c r Expr 1 (near e c r Before 0 A))))
+      ≡ emit (mark r (Load LoadConst Null)) (near e c r After 0 (operated (near e c r Expr 1 (near e c r Before 0 A))))
   unfolding does doing exec
   update_run q A = ap (λ (is : List Step). does e c r is A) (on_false _ _ _ q) ∙ go (no_opcode W.detail)
     where
@@ -375,10 +358,10 @@ module _ (e : Lent) (c : Walk) (r : ℕ) where
 
       go : (b : Bool) → does e c r (cond b (visit pass Before 0 ∷ expr 1 ∷ refuse Operator ∷ [])
           (visit pass Before 0 ∷ expr 1 ∷ push_op (binary_code W.detail) 0 ∷ visit pass After 0 ∷ null ∷ [])) A
-          ≡ bring r LoadConst Null (near e c r After 0 (cond b C (emit (mark r (Do (binary_code W.detail) 0)) B)))
+          ≡ emit (mark r (Load LoadConst Null)) (near e c r After 0 (cond b C (emit (mark r (Do (binary_code W.detail) 0)) B)))
       go true =
           let n : is_go (flow C) ≡ false = halt_not (Refused Operator r) B refl in
-          sym (ap (bring r LoadConst Null) (visit_still e c After (nth R 0 (first R r)) C n) ∙ no_bring r LoadConst Null C n)
+          sym (ap (emit (mark r (Load LoadConst Null))) (visit_still e c After (nth R 0 (first R r)) C n) ∙ no_emit (mark r (Load LoadConst Null)) C n)
       go false = refl
 
   -- ---- Return
@@ -399,47 +382,51 @@ module _ (e : Lent) (c : Walk) (r : ℕ) where
       go false = doing_still e c r (return_label c.code (expr 0 ∷ push_op Return 0 ∷ null ∷ [])) [] (checked A) still
 
   pub ret_tail : is_tail K ≡ true → (A : State)
-      → does e c r (return_steps c.code W K) A ≡ bring r LoadConst Null (near e c r Tail 0 (return_run c.code r (checked A)))
+      → does e c r (return_steps c.code W K) A ≡ emit (mark r (Load LoadConst Null)) (near e c r Tail 0 (return_run c.code r (checked A)))
   unfolding does doing exec
   ret_tail q A = ap (λ (is : List Step). does e c r is A) (on_true (is_tail K) _ _ q) ∙ go c.code
     where
       go : (sc : StackCode) → doing e c r (return_label sc (visit pass Tail 0 ∷ null ∷ [])) [] (checked A)
-          ≡ bring r LoadConst Null (near e c r Tail 0 (return_run sc r (checked A)))
+          ≡ emit (mark r (Load LoadConst Null)) (near e c r Tail 0 (return_run sc r (checked A)))
       go Code1 = refl
       go Code2 = refl
 
   pub ret_plain : is_tail K ≡ false → (A : State)
       → does e c r (return_steps c.code W K) A
-      ≡ bring r LoadConst Null (emit (mark r (Do Return 0)) (near e c r Expr 0 (return_run c.code r (checked A))))
+      ≡ emit (mark r (Load LoadConst Null)) (emit (mark r (Do Return 0)) (near e c r Expr 0 (return_run c.code r (checked A))))
   unfolding does doing exec
   ret_plain q A = ap (λ (is : List Step). does e c r is A) (on_false (is_tail K) _ _ q) ∙ go c.code
     where
       go : (sc : StackCode) → doing e c r (return_label sc (expr 0 ∷ push_op Return 0 ∷ null ∷ [])) [] (checked A)
-          ≡ bring r LoadConst Null (emit (mark r (Do Return 0)) (near e c r Expr 0 (return_run sc r (checked A))))
+          ≡ emit (mark r (Load LoadConst Null)) (emit (mark r (Do Return 0)) (near e c r Expr 0 (return_run sc r (checked A))))
       go Code1 = refl
       go Code2 = refl
 
   -- ---- For, Import and Match
 
-  pub for_run : (A : State)
+  pub for_run : {n a : ℕ} → n ≡ W.p → a ≡ first R r → (A : State)
       → does e c r (for_steps W K) A
       ≡ (let l = labels A in let m = labels (bump A) in let k = labels (bump (bump A)) in
-      end_for_run r l m (near e c r Expr (suc W.p) (targets_put e r W.p (first R r)
-      (emit (mark r (Do Pop 0)) (emit (mark r (Do MarkAddStackSize 3)) (emit (mark r (Label k)) (emit (mark r (To Jump m)) (emit (mark r (Do Call 1))
-      (emit (mark r (To RegisterHandler k)) (iterate_run r l (near e c r Expr W.p (begin (mode c).trim (loop r l m) (bump (bump (bump A)))))))))))))))
+      end_for_run r l m (near e c r Expr (suc W.p) (targets_put e r n a
+      (emit (mark r (Do Pop 0)) (emit (mark r (Do MarkAddStackSize 3)) (emit (mark r (Label k)) (emit (mark r (To Jump m))
+      (iterate_run r l k (near e c r Expr W.p (begin (mode c).trim (loop r l m) (bump (bump (bump A)))))))))))))
   unfolding does doing exec
-  for_run A =
+  for_run p q A =
       let l = labels A in
       let m = labels (bump A) in
       let k = labels (bump (bump A)) in
       for_targets_part e c r W.p (first R r) (expr (suc W.p) ∷ push_op Pop 0 ∷ jump_back 0 ∷ place 1 ∷ push_op Pop 0 ∷ null ∷ end_loop ∷ []) (l ∷ m ∷ k ∷ [])
-      (emit (mark r (Do Pop 0)) (emit (mark r (Do MarkAddStackSize 3)) (emit (mark r (Label k)) (emit (mark r (To Jump m)) (emit (mark r (Do Call 1))
-      (emit (mark r (To RegisterHandler k)) (iterate_run r l (near e c r Expr W.p (begin (mode c).trim (loop r l m) (bump (bump (bump A)))))))))))) refl
+      (emit (mark r (Do Pop 0)) (emit (mark r (Do MarkAddStackSize 3)) (emit (mark r (Label k)) (emit (mark r (To Jump m))
+      (iterate_run r l k (near e c r Expr W.p (begin (mode c).trim (loop r l m) (bump (bump (bump A))))))))))
+      refl
+      ∙ ap₂ (λ (n a : ℕ). end_for_run r l m (near e c r Expr (suc W.p) (targets_put e r n a
+      (emit (mark r (Do Pop 0)) (emit (mark r (Do MarkAddStackSize 3)) (emit (mark r (Label k)) (emit (mark r (To Jump m))
+      (iterate_run r l k (near e c r Expr W.p (begin (mode c).trim (loop r l m) (bump (bump (bump A))))))))))))) (sym p) (sym q)
 
   -- an Import's Items
   pub items_run : (A : State)
       → does e c r (visits Expr W.p (width K - W.p) (push_op Pop 0 ∷ null ∷ [])) A
-      ≡ bring r LoadConst Null (emit (mark r (Do Pop 0)) (through e c Expr (width K - W.p) (nth R W.p (first R r)) A))
+      ≡ emit (mark r (Load LoadConst Null)) (emit (mark r (Do Pop 0)) (through e c Expr (width K - W.p) (nth R W.p (first R r)) A))
   unfolding does doing exec
   items_run A = visits_part e c r Expr W.p (width K - W.p) (push_op Pop 0 ∷ null ∷ []) [] A
 
@@ -448,7 +435,7 @@ module _ (e : Lent) (c : Walk) (r : ℕ) where
   blocks_at l n A =
       let B = near e c r Expr 0 (bump A) in
       emit (mark r (Do Pop 0)) (emit (mark r (Do rule.Swap 2)) (emit (mark r (Label (labels A))) (bodied_all e c r (labels B) (labels A) l
-      (emit (mark r (To Jump (labels A))) (bring r LoadConst Null (cases_run e.notes r (labels B) (forest R l) (bumps n B)))))))
+      (emit (mark r (To Jump (labels A))) (emit (mark r (Load LoadConst Null)) (cases_run e.notes r (labels B) (forest R l) (bumps n B)))))))
 
   blocks_behind : (first R r ≡ 0 → ⊥) → (A : State) → does e c r (match_steps W K) A ≡ blocks_at rights (width (row R rights)) A
   unfolding doing exec bodied_all blocks_at
@@ -457,7 +444,7 @@ module _ (e : Lent) (c : Walk) (r : ℕ) where
       let n = width (row R rights) in
       match_some e c r ne A
       ∙ bodies_part e c r 1 1 n (labels B) (place 0 ∷ push_op rule.Swap 2 ∷ push_op Pop 0 ∷ []) (labels A ∷ in_row (labels B) n)
-      (emit (mark r (To Jump (labels A))) (bring r LoadConst Null (cases_run e.notes r (labels B) (forest R rights) (bumps n B))))
+      (emit (mark r (To Jump (labels A))) (emit (mark r (Load LoadConst Null)) (cases_run e.notes r (labels B) (forest R rights) (bumps n B))))
       (λ k lt. ap (λ (i : ℕ). get_or (labels A ∷ in_row (labels B) n) i 0) (let z : 1 + k ≡ suc k = omega arith in z) ∙ row_named (labels B) n k lt)
 
   -- the first of n Cases being the record l
@@ -465,6 +452,6 @@ module _ (e : Lent) (c : Walk) (r : ℕ) where
       → does e c r (match_steps W K) A
       ≡ (let B = near e c r Expr 0 (bump A) in
       emit (mark r (Do Pop 0)) (emit (mark r (Do rule.Swap 2)) (emit (mark r (Label (labels A))) (bodied_all e c r (labels B) (labels A) l
-      (emit (mark r (To Jump (labels A))) (bring r LoadConst Null (cases_run e.notes r (labels B) (forest R l) (bumps n B))))))))
+      (emit (mark r (To Jump (labels A))) (emit (mark r (Load LoadConst Null)) (cases_run e.notes r (labels B) (forest R l) (bumps n B))))))))
   unfolding blocks_at
   match_run p q ne A = blocks_behind ne A ∙ ap₂ (λ (l n : ℕ). blocks_at l n A) (sym p) (ap (λ (x : ℕ). width (row R x)) (sym p) ∙ sym q)

@@ -40,6 +40,10 @@ module _ {e : Lent} where
   none_left : {o o' : Outs} {w w' : List ℕ} {f g : Walk → State → State} → Remains e o w f o' w' g → ((c : Walk) → Scoped e → (A : State) → g c A ≡ A) → Sim e o w o' w' f
   none_left r q = r.after _ _ (resim q stay)
 
+-- the words o' and k' are as long as o and k
+abbrev pub SameSizes : (o k o' k' : List ℕ) → Type 0
+SameSizes o k o' k' = (length o' ≡ length o) × (length k' ≡ length k)
+
 less_none : (n : ℕ) → n ≡ n - 0
 less_none n = omega arith
 
@@ -50,10 +54,10 @@ module _ (e : Lent) (r : ℕ) where
     pub link : Linked (size e.records) r l
     pub some : l ≡ 0 → ⊥
     pub work : Remains e (outs o k) w (λ c. left_items e c r l₀) (outs o' k') w' (λ c. left_items e c r l)
-    pub long : length o' ≡ length o
+    pub sizes : SameSizes o k o' k'
 
   pub blocking_start : (o k w : List ℕ) {l : ℕ} → Linked (size e.records) r l → (l ≡ 0 → ⊥) → Blocking o k w l o k w l
-  blocking_start o k w l ne = record { link = l; some = ne; work = all_left (λ c z A. refl); long = refl }
+  blocking_start o k w l ne = record { link = l; some = ne; work = all_left (λ c z A. refl); sizes = (refl, refl) }
 
   module _ {o k w o' k' w' : List ℕ} {l₀ l : ℕ} (h : Blocking o k w l₀ o' k' w' l) where
     -- an expression, its error kept: the last one, or one with another behind it
@@ -62,13 +66,13 @@ module _ (e : Lent) (r : ℕ) where
       pub blocking_last : x ≡ 0 → Sim e (outs o k) w (outs o₂ k₁) w₂ (λ c. left_items e c r l₀)
       blocking_last z = h.work.after _ _ (resim (λ c s A. left_last e c r l x A q z) (item_goes e (λ c. visit_in e c Expr l) g v y))
 
-      pub blocking_again : {o₃ w₃ : List ℕ} → (x ≡ 0 → ⊥) → Sim e (outs o₂ k₁) w₂ (outs o₃ k₁) w₃ (λ c. emit (mark r (Do Pop 0))) → length o₃ ≡ length o'
+      pub blocking_again : {o₃ w₃ : List ℕ} → (x ≡ 0 → ⊥) → Sim e (outs o₂ k₁) w₂ (outs o₃ k₁) w₃ (λ c. emit (mark r (Do Pop 0))) → length o₃ ≡ length o' → length k₁ ≡ length k'
           → Blocking o k w l₀ o₃ k₁ w₃ x
-      blocking_again ne p so = record {
+      blocking_again ne p so sk = record {
         link = child2 e.records q h.link;
         some = ne;
         work = less_left h.work (then (item_goes e (λ c. visit_in e c Expr l) g v y) p) (λ c s A. left_turn e c r l x A q ne);
-        long = so ∙ h.long;
+        sizes = (so ∙ h.sizes.0, sk ∙ h.sizes.1);
       }
 
     pub blocking_still : goes (at w') ≡ false → Sim e (outs o k) w (outs o' k') w' (λ c. left_items e c r l₀)
@@ -81,19 +85,19 @@ module _ (e : Lent) (a n : ℕ) where
     pub along : Along a l
     pub none : a ≡ 0 → l ≡ 0
     pub work : Remains e (outs o k) w (λ c. through e c Expr n a) (outs o' k') w' (λ c. through e c Expr i l)
-    pub long : length o' ≡ length o
+    pub sizes : SameSizes o k o' k'
 
   pub all_start : (o k w : List ℕ) → All o k w o k w a n
-  all_start o k w = record { along = inr (omega arith); none = λ q. q; work = all_left (λ c z A. refl); long = refl }
+  all_start o k w = record { along = inr (omega arith); none = λ q. q; work = all_left (λ c z A. refl); sizes = (refl, refl) }
 
   module _ {o k w o' k' w' : List ℕ} {l i : ℕ} (h : All o k w o' k' w' l i) where
     pub all_again : {o'' k'' w'' : List ℕ} {x j : ℕ} → 0 < i → (l ≡ 0 → ⊥) → x ≡ next e.records l → j ≡ i - 1
-        → Sim e (outs o' k') w' (outs o'' k'') w'' (λ c. visit_in e c Expr l) → length o'' ≡ length o' → All o k w o'' k'' w'' x j
-    all_again {x = x} lt ne q m v p = record {
+        → Sim e (outs o' k') w' (outs o'' k'') w'' (λ c. visit_in e c Expr l) → length o'' ≡ length o' → length k'' ≡ length k' → All o k w o'' k'' w'' x j
+    all_again {x = x} lt ne q m v p d = record {
       along = along_next e.records q ne h.along;
       none = λ z. absurd (ne (h.none z));
       work = less_left h.work v (λ c z A. through_turn e c i l x A lt q ∙ ap (λ (j : ℕ). through e c Expr j x (visit_in e c Expr l A)) (sym m));
-      long = p ∙ h.long;
+      sizes = (p ∙ h.sizes.0, d ∙ h.sizes.1);
     }
 
     -- no sibling is left, or the n are visited
@@ -109,22 +113,22 @@ module _ (e : Lent) (r n : ℕ) where
   pub record Unpacking (o k w o' k' w' : List ℕ) (l i : ℕ) : Type 0 where
     pub link : Linked (size e.records) r l
     pub work : Remains e (outs o k) w (λ c. unpacks e c r 0 n (first e.records r)) (outs o' k') w' (λ c. unpacks e c r i (n - i) l)
-    pub long : length o' ≡ length o
+    pub sizes : SameSizes o k o' k'
 
   pub unpacking_start : (o k w : List ℕ) {l : ℕ} → l ≡ first e.records r → Linked (size e.records) r l → Unpacking o k w o k w l 0
   unpacking_start o k w q l = record {
     link = l;
     work = all_left (λ c z A. ap₂ (λ (m x : ℕ). unpacks e c r 0 m x A) (less_none n) (sym q));
-    long = refl;
+    sizes = (refl, refl);
   }
 
   module _ {o k w o' k' w' : List ℕ} {l i : ℕ} (h : Unpacking o k w o' k' w' l i) where
     pub unpacking_again : {o'' k'' w'' : List ℕ} {x : ℕ} → i < n → x ≡ next e.records l → Sim e (outs o' k') w' (outs o'' k'') w'' (λ c. unpacks e c r i 1 l)
-        → length o'' ≡ length o' → Unpacking o k w o'' k'' w'' x (i + 1)
-    unpacking_again {x = x} lt q v p = record {
+        → length o'' ≡ length o' → length k'' ≡ length k' → Unpacking o k w o'' k'' w'' x (i + 1)
+    unpacking_again {x = x} lt q v p d = record {
       link = child2 e.records q h.link;
       work = less_left h.work v (λ c z A. unpacks_turn e c r n i l x A lt q);
-      long = p ∙ h.long;
+      sizes = (p ∙ h.sizes.0, d ∙ h.sizes.1);
     }
 
     pub unpacking_end : n ≤ i → Sim e (outs o k) w (outs o' k') w' (λ c. unpacks e c r 0 n (first e.records r))
@@ -140,7 +144,7 @@ module _ (e : Lent) (a b m : ℕ) where
     pub label : (base : ℕ) → b ≡ cap base → x ≡ cap (base + turns)
     pub work : (r base end : ℕ) → b ≡ cap base → m ≡ cap end
         → Remains e (outs o k) w (λ c. bodied_all e c r base end a) (outs o' k') w' (λ c. bodied_all e c r (base + turns) end l)
-    pub long : length o' ≡ length o
+    pub sizes : SameSizes o k o' k'
 
   none_more : (i : ℕ) → i ≡ i + 0
   none_more i = omega arith
@@ -152,21 +156,21 @@ module _ (e : Lent) (a b m : ℕ) where
     turns = 0;
     label = λ i q. q ∙ ap cap (none_more i);
     work = λ r i j q d. all_left (λ c z A. ap (λ (y : ℕ). bodied_all e c r y j a A) (none_more i));
-    long = refl;
+    sizes = (refl, refl);
   }
 
   module _ {o k w o' k' w' : List ℕ} {l x : ℕ} (h : Bodying o k w o' k' w' l x) where
     pub bodying_again : {o'' k'' w'' : List ℕ} {y v : ℕ} → (l ≡ 0 → ⊥) → y ≡ next e.records l → v ≡ more x
         → ((r i j : ℕ) → x ≡ cap i → m ≡ cap j → Sim e (outs o' k') w' (outs o'' k'') w'' (λ c. bodied e c r i j 1 l))
-        → length o'' ≡ length o' → Bodying o k w o'' k'' w'' y v
-    bodying_again {y = y} ne q u d p = record {
+        → length o'' ≡ length o' → length k'' ≡ length k' → Bodying o k w o'' k'' w'' y v
+    bodying_again {y = y} ne q u d p s = record {
       along = along_next e.records q ne h.along;
       none = λ z. absurd (ne (h.none z));
       turns = suc h.turns;
       label = λ i z. u ∙ ap more (h.label i z) ∙ more_cap (i + h.turns) ∙ ap cap (one_on i);
       work = λ r i j z f. less_left (h.work r i j z f) (d r (i + h.turns) j (h.label i z) f)
           (λ c s A. bodied_turn e c r (i + h.turns) j l y A ne q ∙ ap (λ (t : ℕ). bodied_all e c r t j y (bodied e c r (i + h.turns) j 1 l A)) (one_on i));
-      long = p ∙ h.long;
+      sizes = (p ∙ h.sizes.0, s ∙ h.sizes.1);
     }
       where
         one_on : (i : ℕ) → suc (i + h.turns) ≡ i + suc h.turns
@@ -186,12 +190,12 @@ module _ (e : Lent) (r n : ℕ) where
     pub few : n ≤ width (own_tree (children e.records r))
     pub place : Scoped e → 0 < i → l ≡ child (i - 1)
     pub work : Remains e (outs o k) w (λ c. downs e c r n) (outs o' k') w' (λ c. downs e c r i)
-    pub long : length o' ≡ length o
+    pub sizes : SameSizes o k o' k'
 
   pub downing_start : (o k w : List ℕ) {a m l : ℕ} → n ≤ width (own_tree (children e.records r)) → a ≡ first e.records r → m ≡ n - 1 → l ≡ nth e.records m a
       → Downing o k w o k w l n
   downing_start o k w le q p d =
-      record { bound = omega arith; few = le; place = λ z lt. d ∙ ap₂ (nth e.records) p q; work = all_left (λ c z A. refl); long = refl }
+      record { bound = omega arith; few = le; place = λ z lt. d ∙ ap₂ (nth e.records) p q; work = all_left (λ c z A. refl); sizes = (refl, refl) }
 
   down_step : (c : Walk) (i l : ℕ) (A : State) → 0 < i → l ≡ child (i - 1) → downs e c r i A ≡ downs e c r (i - 1) (visit_in e c Target l A)
   down_step c zero l A lt q = absurd (omega arith)
@@ -208,13 +212,13 @@ module _ (e : Lent) (r n : ℕ) where
 
   module _ {o k w o' k' w' : List ℕ} {l i : ℕ} (h : Downing o k w o' k' w' l i) where
     pub downing_again : {o'' k'' w'' : List ℕ} {x j : ℕ} → 0 < i → x ≡ earlier_noted e.notes l → j ≡ i - 1
-        → Sim e (outs o' k') w' (outs o'' k'') w'' (λ c. visit_in e c Target l) → length o'' ≡ length o' → Downing o k w o'' k'' w'' x j
-    downing_again {x = x} {j} lt q m v p = record {
+        → Sim e (outs o' k') w' (outs o'' k'') w'' (λ c. visit_in e c Target l) → length o'' ≡ length o' → length k'' ≡ length k' → Downing o k w o'' k'' w'' x j
+    downing_again {x = x} {j} lt q m v p d = record {
       bound = omega (arith, h.bound);
       few = h.few;
       place = λ z ls. back_step z i l x (omega (arith, h.bound, h.few)) (omega arith) (h.place z lt) q ∙ ap child (let y : i - 1 - 1 ≡ j - 1 = omega arith in y);
       work = less_left h.work v (λ c z A. down_step c i l A lt (h.place z lt) ∙ ap (λ (y : ℕ). downs e c r y (visit_in e c Target l A)) (sym m));
-      long = p ∙ h.long;
+      sizes = (p ∙ h.sizes.0, d ∙ h.sizes.1);
     }
 
     pub downing_end : i ≤ 0 → Sim e (outs o k) w (outs o' k') w' (λ c. downs e c r n)

@@ -16,7 +16,7 @@ use Rattle.rules.specs.declared.Flow.TheVariants.{Go, Cut, Refused}
 use Rattle.rules.specs.Marker.{Jump, Pop, LoadConst, GetItem, Label, To, Load, Do, mark}
 use Rattle.rules.specs.Step.{Role, Expr, Target, Step, visits_down, width}
 use Rattle.rules.specs.Arms.{block_steps, unpacked, bodies}
-use Rattle.rules.specs.Run.{State, flow, emit, bring, kept, exec}
+use Rattle.rules.specs.Run.{State, flow, emit, kept, exec}
 use Rattle.rules.proofs.Sticky.{Ended, Sticky, exec_sticky, visits_sticky}
 use Rattle.emit.specs.Rep.{Walk, mode, Lent}
 use Rattle.emit.specs.Does.{nth, noted_look, visit_at, visit_in, own_stream, near, doing, does, through, items}
@@ -108,7 +108,7 @@ module _ (e : Lent) (c : Walk) (r : ℕ) where
   abbrev pub unpacks : ℕ → ℕ → ℕ → State → State
   unpacks i zero l A = A
   unpacks i (suc n) l A =
-      unpacks (suc i) n (next e.records l) (visit_in e c Target l (emit (mark r (Do GetItem 0)) (bring r LoadConst (int i) A)))
+      unpacks (suc i) n (next e.records l) (visit_in e c Target l (emit (mark r (Do GetItem 0)) (emit (mark r (Load LoadConst (int i))) A)))
 
   -- the first n children as targets, the last first
   abbrev pub downs : ℕ → State → State

@@ -34,6 +34,10 @@ module _ (recs notes code consts frame : LentWords) where
   abbrev pub Visits : Role → ℕ → Type 0
   Visits a r = Goes (λ e c. visit_in e c a r)
 
+  -- by the stream of the Function at record r inside another, where the functions inside are walked
+  abbrev pub Nests : ℕ → Type 0
+  Nests r = Goes (λ e c. nested c.nest r (words e.records r) (own_stream e (within r c) r))
+
   -- by the bodies from record l on, of whatever Call or Match, behind labels from the word k on, with jumps to the label of the word m
   pub record Bodies (l k m : ℕ) : Type 0 where
     pub bodies : (r base end : ℕ) → k ≡ cap base → m ≡ cap end → Goes (λ e c. bodied_all e c r base end l)
@@ -41,8 +45,3 @@ module _ (recs notes code consts frame : LentWords) where
   -- by a Handler's steps; the number of a record that has a kind is a word
   pub record Catches (h : ℕ) : Type 0 where
     pub catches : word recs.entry.now h 0 ≡ 32 → Follows h (λ sc. handler_steps)
-
--- by the stream of the Function at record r inside another, where the functions inside are walked; the one around keeps its constants
-pub record Nests (recs notes code frame : LentWords) (r : ℕ) : Type 0 where
-  pub nests : (consts : List ℕ) → Sim (lent recs.entry.now notes.entry.now) (outs code.entry.now consts) frame.entry.now (outs code.exit.now consts)
-      frame.exit.now (λ c. nested c.nest r (words recs.entry.now r) (own_stream (lent recs.entry.now notes.entry.now) (within r c) r))

@@ -23,7 +23,7 @@ use emit::op::{
     push_build_list, push_build_table, push_call, push_check_effect, push_copy, push_get_item,
     push_import_glob, push_jump, push_jump_back_edge, push_jump_if_false_or_pop,
     push_jump_if_true_or_pop, push_load_locals, push_mark_add_stack_size, push_pop,
-    push_pop_jump_if_false, push_register_handler, push_return, push_swap, push_type_check,
+    push_pop_jump_if_false, push_return, push_swap, push_type_check,
 };
 use emit::word::capped;
 use opcode::index::LabelId;
@@ -44,8 +44,6 @@ use plain::operator::{
     unary_operator,
 };
 use plain::siblings::{nth, width};
-use pool::consts;
-use pool::consts::{Consts, start_consts};
 use pool::notes::{Notes, earlier};
 use pool::value::ConstValue;
 use rules::error;
@@ -59,7 +57,7 @@ pub fn expr(
     recs: &[u32],
     notes: &Notes,
     code: &mut [u32],
-    consts: &mut Consts,
+    consts: &mut [u32],
     frame: &mut Frame,
     r: usize,
 )
@@ -98,7 +96,7 @@ fn arm(
     recs: &[u32],
     notes: &Notes,
     code: &mut [u32],
-    consts: &mut Consts,
+    consts: &mut [u32],
     frame: &mut Frame,
     r: usize,
 )
@@ -110,8 +108,8 @@ fn arm(
         kind::LOOP => repeat(recs, notes, code, consts, frame, r),
         kind::WHILE => whilst(recs, notes, code, consts, frame, r),
         kind::FOR => each(recs, notes, code, consts, frame, r),
-        kind::BREAK => break_loop(recs, code, frame, r),
-        kind::CONTINUE => continue_loop(recs, code, frame, r),
+        kind::BREAK => break_loop(recs, code, consts, frame, r),
+        kind::CONTINUE => continue_loop(recs, code, consts, frame, r),
         kind::RETURN => ret(recs, notes, code, consts, frame, r),
         kind::IMPORT => import(recs, notes, code, consts, frame, r),
         kind::GLO_ASSIGN => glo(recs, notes, code, consts, frame, r),
@@ -129,7 +127,7 @@ fn rest(
     recs: &[u32],
     notes: &Notes,
     code: &mut [u32],
-    consts: &mut Consts,
+    consts: &mut [u32],
     frame: &mut Frame,
     r: usize,
 )
@@ -137,9 +135,9 @@ fn rest(
 {
     match kind(recs, r) {
         kind::FUNCTION => {
-            inner(recs, notes, code, frame, r);
-            let value = ConstValue::Function(function_id(recs, r));
-            push_load_const(recs, code, consts, frame, value, r);
+            inner(recs, notes, code, consts, frame, r);
+            let function_id = function_id(recs, r);
+            push_load_const(recs, code, consts, frame, ConstValue::Function(function_id));
             if detail(recs, r) == detail::DO {
                 push_call(code, frame, 0)
             }
@@ -157,8 +155,15 @@ fn rest(
 
 // gen_function_code inside another function, where the functions inside are walked.
 #[cycle(all_and_arm_assign_binary_block_bodies_body_call_called_cases_catch_cond_each_expr_fetch_func_glo_import_inner_list_member_multi_or_prop_repeat_rest_ret_short_table_target_unpack_update_whilst)]
-pub fn inner(recs: &[u32], notes: &Notes, code: &mut [u32], frame: &mut Frame, r: usize)
-    ensures { Nests recs notes code frame r }
+pub fn inner(
+    recs: &[u32],
+    notes: &Notes,
+    code: &mut [u32],
+    consts: &mut [u32],
+    frame: &mut Frame,
+    r: usize,
+)
+    ensures { Nests recs notes code consts frame r }
 {
     if !nests(frame) {
         return;
@@ -169,10 +174,8 @@ pub fn inner(recs: &[u32], notes: &Notes, code: &mut [u32], frame: &mut Frame, r
     if !is_numbered(recs, frame, r) {
         return refuse(frame, RunRule::Skipped, r);
     }
-    let mut consts = [0u32; consts::SIZE];
-    start_consts(&mut consts);
     let outer = begin_function(frame, r);
-    body(recs, notes, code, &mut consts, frame, r);
+    body(recs, notes, code, consts, frame, r);
     keep_error(code, frame);
     end_function(frame, outer)
 }
@@ -183,7 +186,7 @@ pub fn body(
     recs: &[u32],
     notes: &Notes,
     code: &mut [u32],
-    consts: &mut Consts,
+    consts: &mut [u32],
     frame: &mut Frame,
     r: usize,
 )
@@ -207,7 +210,7 @@ fn block(
     recs: &[u32],
     notes: &Notes,
     code: &mut [u32],
-    consts: &mut Consts,
+    consts: &mut [u32],
     frame: &mut Frame,
     r: usize,
 )
@@ -215,7 +218,7 @@ fn block(
 {
     let mut child = first(recs, r);
     if child == 0 {
-        return push_null(code, frame);
+        return push_null(recs, code, consts, frame);
     }
     while goes_on(frame) {
         expr(recs, notes, code, consts, frame, child);
@@ -234,7 +237,7 @@ fn all(
     recs: &[u32],
     notes: &Notes,
     code: &mut [u32],
-    consts: &mut Consts,
+    consts: &mut [u32],
     frame: &mut Frame,
     item: usize,
     n: usize,
@@ -259,7 +262,7 @@ fn func(
     recs: &[u32],
     notes: &Notes,
     code: &mut [u32],
-    consts: &mut Consts,
+    consts: &mut [u32],
     frame: &mut Frame,
     r: usize,
 )
@@ -272,7 +275,7 @@ fn func(
     let function = next(recs, name);
     expr(recs, notes, code, consts, frame, function);
     store(notes, code, frame, name);
-    push_null(code, frame)
+    push_null(recs, code, consts, frame)
 }
 
 // ExprKind::Table
@@ -281,7 +284,7 @@ fn table(
     recs: &[u32],
     notes: &Notes,
     code: &mut [u32],
-    consts: &mut Consts,
+    consts: &mut [u32],
     frame: &mut Frame,
     r: usize,
 )
@@ -299,7 +302,7 @@ fn list(
     recs: &[u32],
     notes: &Notes,
     code: &mut [u32],
-    consts: &mut Consts,
+    consts: &mut [u32],
     frame: &mut Frame,
     r: usize,
 )
@@ -317,7 +320,7 @@ fn binary(
     recs: &[u32],
     notes: &Notes,
     code: &mut [u32],
-    consts: &mut Consts,
+    consts: &mut [u32],
     frame: &mut Frame,
     r: usize,
 )
@@ -343,7 +346,7 @@ fn and(
     recs: &[u32],
     notes: &Notes,
     code: &mut [u32],
-    consts: &mut Consts,
+    consts: &mut [u32],
     frame: &mut Frame,
     r: usize,
 )
@@ -364,7 +367,7 @@ fn or(
     recs: &[u32],
     notes: &Notes,
     code: &mut [u32],
-    consts: &mut Consts,
+    consts: &mut [u32],
     frame: &mut Frame,
     r: usize,
 )
@@ -385,7 +388,7 @@ fn member(
     recs: &[u32],
     notes: &Notes,
     code: &mut [u32],
-    consts: &mut Consts,
+    consts: &mut [u32],
     frame: &mut Frame,
     r: usize,
 )
@@ -411,7 +414,7 @@ fn prop(
     recs: &[u32],
     notes: &Notes,
     code: &mut [u32],
-    consts: &mut Consts,
+    consts: &mut [u32],
     frame: &mut Frame,
     r: usize,
     property: MemberKind,
@@ -424,7 +427,7 @@ fn prop(
         MemberKind::Bracket => expr(recs, notes, code, consts, frame, held),
         MemberKind::Dot | MemberKind::DoubleColon => {
             let name = name_of(recs, held);
-            push_load_const(recs, code, consts, frame, ConstValue::Str(name), held)
+            push_load_const(recs, code, consts, frame, ConstValue::Str(name))
         }
         _ => {}
     }
@@ -436,7 +439,7 @@ fn call(
     recs: &[u32],
     notes: &Notes,
     code: &mut [u32],
-    consts: &mut Consts,
+    consts: &mut [u32],
     frame: &mut Frame,
     r: usize,
     tail: bool,
@@ -476,7 +479,7 @@ fn called(
     recs: &[u32],
     notes: &Notes,
     code: &mut [u32],
-    consts: &mut Consts,
+    consts: &mut [u32],
     frame: &mut Frame,
     callee: usize,
 )
@@ -512,7 +515,7 @@ fn bodies(
     recs: &[u32],
     notes: &Notes,
     code: &mut [u32],
-    consts: &mut Consts,
+    consts: &mut [u32],
     frame: &mut Frame,
     first: usize,
     first_label: LabelId,
@@ -537,7 +540,7 @@ fn catch(
     recs: &[u32],
     notes: &Notes,
     code: &mut [u32],
-    consts: &mut Consts,
+    consts: &mut [u32],
     frame: &mut Frame,
     handler: usize,
 )
@@ -547,7 +550,7 @@ fn catch(
     let params = next(recs, effect);
     let body = next(recs, params);
     let value = ConstValue::Effect(capped(handler));
-    push_load_const(recs, code, consts, frame, value, handler);
+    push_load_const(recs, code, consts, frame, value);
     push_check_effect(code, frame, params_len(recs, params));
     expr(recs, notes, code, consts, frame, params);
     expr(recs, notes, code, consts, frame, body)
@@ -559,7 +562,7 @@ fn cond(
     recs: &[u32],
     notes: &Notes,
     code: &mut [u32],
-    consts: &mut Consts,
+    consts: &mut [u32],
     frame: &mut Frame,
     r: usize,
 )
@@ -579,7 +582,7 @@ fn cond(
         expr(recs, notes, code, consts, frame, alternate);
         return push_label(code, frame, end_label);
     }
-    push_null(code, frame);
+    push_null(recs, code, consts, frame);
     push_label(code, frame, end_label)
 }
 
@@ -589,7 +592,7 @@ fn cases(
     recs: &[u32],
     notes: &Notes,
     code: &mut [u32],
-    consts: &mut Consts,
+    consts: &mut [u32],
     frame: &mut Frame,
     r: usize,
 )
@@ -605,7 +608,7 @@ fn cases(
     expr(recs, notes, code, consts, frame, value);
     let block_label = get_labels(frame, width(recs, cases));
     patterns(recs, notes, code, consts, frame, cases, block_label);
-    push_null(code, frame);
+    push_null(recs, code, consts, frame);
     push_jump(code, frame, end_label);
     bodies(
         recs,
@@ -628,7 +631,7 @@ fn repeat(
     recs: &[u32],
     notes: &Notes,
     code: &mut [u32],
-    consts: &mut Consts,
+    consts: &mut [u32],
     frame: &mut Frame,
     r: usize,
 )
@@ -643,7 +646,7 @@ fn repeat(
     push_pop(code, frame);
     push_jump_back_edge(code, frame, continue_label);
     push_label(code, frame, break_label);
-    push_null(code, frame);
+    push_null(recs, code, consts, frame);
     end_loop(frame)
 }
 
@@ -653,7 +656,7 @@ fn whilst(
     recs: &[u32],
     notes: &Notes,
     code: &mut [u32],
-    consts: &mut Consts,
+    consts: &mut [u32],
     frame: &mut Frame,
     r: usize,
 )
@@ -671,7 +674,7 @@ fn whilst(
     push_pop(code, frame);
     push_jump_back_edge(code, frame, continue_label);
     push_label(code, frame, break_label);
-    push_null(code, frame);
+    push_null(recs, code, consts, frame);
     end_loop(frame)
 }
 
@@ -681,29 +684,29 @@ fn each(
     recs: &[u32],
     notes: &Notes,
     code: &mut [u32],
-    consts: &mut Consts,
+    consts: &mut [u32],
     frame: &mut Frame,
     r: usize,
 )
     ensures { Follows recs notes code consts frame r (λ sc. for_steps) }
 {
-    let right = nth(recs, first(recs, r), p(recs, r) as usize);
+    let left = first(recs, r);
+    let n = p(recs, r);
+    let right = nth(recs, left, n as usize);
     let body = next(recs, right);
     let continue_label = get_label(frame);
     let break_label = get_label(frame);
     let body_label = get_label(frame);
     begin_loop(frame, continue_label);
     expr(recs, notes, code, consts, frame, right);
-    iterate(recs, code, consts, frame, continue_label, r);
-    push_register_handler(code, frame, body_label);
-    push_call(code, frame, 1);
+    iterate(recs, code, consts, frame, continue_label, body_label);
     push_jump(code, frame, break_label);
     push_label(code, frame, body_label);
     push_mark_add_stack_size(code, frame, 3);
     push_pop(code, frame);
-    targets(recs, notes, code, consts, frame, r);
+    targets(recs, notes, code, consts, frame, left, n);
     expr(recs, notes, code, consts, frame, body);
-    end_for(code, frame, continue_label, break_label)
+    end_for(recs, code, consts, frame, continue_label, break_label)
 }
 
 // ExprKind::Return
@@ -712,7 +715,7 @@ fn ret(
     recs: &[u32],
     notes: &Notes,
     code: &mut [u32],
-    consts: &mut Consts,
+    consts: &mut [u32],
     frame: &mut Frame,
     r: usize,
 )
@@ -725,11 +728,11 @@ fn ret(
     push_return_label(code, frame);
     if is_tail(recs, argument) {
         call(recs, notes, code, consts, frame, argument, true);
-        return push_null(code, frame);
+        return push_null(recs, code, consts, frame);
     }
     expr(recs, notes, code, consts, frame, argument);
     push_return(code, frame);
-    push_null(code, frame)
+    push_null(recs, code, consts, frame)
 }
 
 // ExprKind::Import
@@ -738,27 +741,27 @@ fn import(
     recs: &[u32],
     notes: &Notes,
     code: &mut [u32],
-    consts: &mut Consts,
+    consts: &mut [u32],
     frame: &mut Frame,
     r: usize,
 )
     ensures { Follows recs notes code consts frame r (λ sc. import_steps) }
 {
-    push_import(recs, code, consts, frame, q(recs, r), r);
+    push_import(recs, code, consts, frame, q(recs, r));
     match detail(recs, r) {
         detail::SIMPLE | detail::WITH_ALIAS => {
             simple(recs, notes, code, frame, r);
-            push_null(code, frame)
+            push_null(recs, code, consts, frame)
         }
         detail::ITEMS => {
             let items = nth(recs, first(recs, r), p(recs, r) as usize);
             all(recs, notes, code, consts, frame, items, width(recs, items));
             push_pop(code, frame);
-            push_null(code, frame)
+            push_null(recs, code, consts, frame)
         }
         _ => {
             push_import_glob(code, frame);
-            push_null(code, frame)
+            push_null(recs, code, consts, frame)
         }
     }
 }
@@ -769,7 +772,7 @@ fn glo(
     recs: &[u32],
     notes: &Notes,
     code: &mut [u32],
-    consts: &mut Consts,
+    consts: &mut [u32],
     frame: &mut Frame,
     r: usize,
 )
@@ -779,7 +782,7 @@ fn glo(
     let right = next(recs, left);
     expr(recs, notes, code, consts, frame, right);
     store(notes, code, frame, left);
-    push_null(code, frame)
+    push_null(recs, code, consts, frame)
 }
 
 // ExprKind::Assign
@@ -788,7 +791,7 @@ fn assign(
     recs: &[u32],
     notes: &Notes,
     code: &mut [u32],
-    consts: &mut Consts,
+    consts: &mut [u32],
     frame: &mut Frame,
     r: usize,
 )
@@ -798,7 +801,7 @@ fn assign(
     let right = next(recs, left);
     expr(recs, notes, code, consts, frame, right);
     target(recs, notes, code, consts, frame, left);
-    push_null(code, frame)
+    push_null(recs, code, consts, frame)
 }
 
 // visit_assign_left
@@ -807,7 +810,7 @@ fn target(
     recs: &[u32],
     notes: &Notes,
     code: &mut [u32],
-    consts: &mut Consts,
+    consts: &mut [u32],
     frame: &mut Frame,
     left: usize,
 )
@@ -836,7 +839,7 @@ fn update(
     recs: &[u32],
     notes: &Notes,
     code: &mut [u32],
-    consts: &mut Consts,
+    consts: &mut [u32],
     frame: &mut Frame,
     r: usize,
 )
@@ -852,7 +855,7 @@ fn update(
     expr(recs, notes, code, consts, frame, right);
     push_binary(code, frame, operator, r);
     after(recs, notes, code, frame, left);
-    push_null(code, frame)
+    push_null(recs, code, consts, frame)
 }
 
 // `and=` and `or=` on a plain name, where the Rust panics (document 02, job 1): as And and Or, with the Left loaded before and stored after.
@@ -861,7 +864,7 @@ fn short(
     recs: &[u32],
     notes: &Notes,
     code: &mut [u32],
-    consts: &mut Consts,
+    consts: &mut [u32],
     frame: &mut Frame,
     r: usize,
     operator: BinOp,
@@ -876,7 +879,7 @@ fn short(
     expr(recs, notes, code, consts, frame, right);
     push_label(code, frame, label);
     after(recs, notes, code, frame, left);
-    push_null(code, frame)
+    push_null(recs, code, consts, frame)
 }
 
 // An AssignOp's Left before the right side: its old value is loaded.
@@ -885,7 +888,7 @@ fn fetch(
     recs: &[u32],
     notes: &Notes,
     code: &mut [u32],
-    consts: &mut Consts,
+    consts: &mut [u32],
     frame: &mut Frame,
     left: usize,
 )
@@ -918,7 +921,7 @@ fn unpack(
     recs: &[u32],
     notes: &Notes,
     code: &mut [u32],
-    consts: &mut Consts,
+    consts: &mut [u32],
     frame: &mut Frame,
     r: usize,
 )
@@ -932,13 +935,13 @@ fn unpack(
     let mut at = left;
     let mut i: u32 = 0;
     while i < n {
-        push_load_const(recs, code, consts, frame, ConstValue::Int(i, 0), r);
+        push_load_const(recs, code, consts, frame, ConstValue::Int(i, 0));
         push_get_item(code, frame);
         target(recs, notes, code, consts, frame, at);
         at = next(recs, at);
         i += 1;
     }
-    push_null(code, frame)
+    push_null(recs, code, consts, frame)
 }
 
 // ExprKind::AssignMulti
@@ -947,7 +950,7 @@ fn multi(
     recs: &[u32],
     notes: &Notes,
     code: &mut [u32],
-    consts: &mut Consts,
+    consts: &mut [u32],
     frame: &mut Frame,
     r: usize,
 )
@@ -971,5 +974,5 @@ fn multi(
         at = earlier(notes, at);
         i -= 1;
     }
-    push_null(code, frame)
+    push_null(recs, code, consts, frame)
 }

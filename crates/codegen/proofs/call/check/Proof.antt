@@ -15,8 +15,8 @@ returns c =
     let c3 = c1.before.before in
     let c11 = c3.before.before.before.before.before.before.before.before in
     let a = c11.args in
-    table_checked a.strings.now a.bytes.now a.symbols.now a.references.now a.functions.now a.members.now a.records.now a.out.markers
-    a.out.constants a.out.names a.out.errors a.out.lines _ _ c3.lent.ensures c1.i.given.1
+    table_checked a.strings.now a.bytes.now a.symbols.now a.references.now a.functions.now a.members.now a.records.now a.markers
+    a.constants a.named a.errors a.lines _ _ c3.lent.ensures c1.i.given.1
 
 enum_told : tie.Need-enum-told
 enum_told c = search rules
@@ -39,8 +39,8 @@ returns_2 c =
     let c7 = c5.before.before in
     let c15 = c7.before.before.before.before.before.before.before.before in
     let a = c15.args in
-    space_checked a.strings.now a.bytes.now a.symbols.now a.references.now a.functions.now a.members.now a.records.now a.out.markers
-    a.out.constants a.out.names a.out.errors a.out.lines _ c7.lent.ensures c5.enum_told.given.1 _ c4.size.ensures _ c3.space.ensures _
+    space_checked a.strings.now a.bytes.now a.symbols.now a.references.now a.functions.now a.members.now a.records.now a.markers
+    a.constants a.named a.errors a.lines _ c7.lent.ensures c5.enum_told.given.1 _ c4.size.ensures _ c3.space.ensures _
     c1.i2.given.1
 
 enum_told_2 : tie.Need-enum-told-2
@@ -58,8 +58,8 @@ returns_3 c =
     let c7 = c5.before.before in
     let c15 = c7.before.before.before.before.before.before.before.before in
     let a = c15.args in
-    rows_checked a.strings.now a.bytes.now a.symbols.now a.references.now a.functions.now a.members.now a.records.now a.out.markers
-    a.out.constants a.out.names a.out.errors a.out.lines _ c7.lent.ensures c5.enum_told.given.1 _ c4.size.ensures _ c3.space.ensures
+    rows_checked a.strings.now a.bytes.now a.symbols.now a.references.now a.functions.now a.members.now a.records.now a.markers
+    a.constants a.named a.errors a.lines _ c7.lent.ensures c5.enum_told.given.1 _ c4.size.ensures _ c3.space.ensures
     c1.enum-told2.given.1 _ c.rows.ensures
 
 pub check-spec : {M : Type 1} → statement M

@@ -1,4 +1,4 @@
-use Rattle.codegen.proofs.AnswerLaws.{checked_roomy, checked_sound, demanded, loadable, refused_answer, run_answer}
+use Rattle.codegen.proofs.AnswerLaws.{checked_roomy, checked_sound, demanded, refused_answer, run_answer}
 use Rattle.codegen.specs.Call.{written_of}
 use borrow.Author.Rules.{rules}
 use mathlib.Core.Path.{◌∙◌, refl}
@@ -18,7 +18,7 @@ returns c =
     let c3 = c1.before.before in
     let c16 = c3.before.before.before.before.before.before.before.before.before.before.before.before.before in (
       refused_answer c16.args.strings.now c16.args.bytes.now c16.args.symbols.now c16.args.references.now c16.args.functions.now c16.args.members.now c16.args.records.now _ _ _ _ _ _ _ c3.check.ensures c1.why.given.1,
-      (refl, (refl, (refl, (refl, (refl, (tt, tt)))))),
+      (refl, (refl, (refl, (refl, (refl, tt))))),
     )
 
 enum_told : tie.Need-enum-told
@@ -68,10 +68,7 @@ returns_2 c =
               v.errors,
               (
                 v.lines,
-                (
-                  demanded c31.args.symbols.now c31.args.references.now c31.args.functions.now c31.args.members.now c31.args.records.now sound _ _ _ w,
-                  loadable _ _ _ _ _ w,
-                ),
+                demanded c31.args.symbols.now c31.args.references.now c31.args.functions.now c31.args.members.now c31.args.records.now sound _ _ _ w,
               ),
             ),
           ),

@@ -4,6 +4,8 @@ use Rattle.codegen.specs.Names.{name_count}
 use Rattle.codegen.specs.Walks.{noted_run}
 use Rattle.emit.specs.Words.{limit}
 use Rattle.pool.specs.NameWords.{over}
+use Rattle.pool.specs.Names.{names}
+use Rattle.rules.proofs.Alone.{streams}
 use borrow.Author.Rules.{rules}
 use lib.ListN.{length, take}
 use mathlib.Core.Path.{◌∙◌, ap, subst⁻¹}
@@ -24,8 +26,18 @@ cast-count c = search rules
 
 streams-requires : tie.Need-streams-requires
 streams-requires c κs =
-    let c16 = c.before.before.before.before.before.before.before.before.before.before.before.before.before.before.before.before in
-    (c16.requires.0, (c16.requires.1.0, c16.requires.1.1.spaced))
+    let c6 = c.before.before.before.before.before.before in
+    let c16 = c6.before.before.before.before.before.before.before.before.before.before in (
+      c16.requires.0,
+      (
+        c16.requires.1.0.sized,
+        (
+          c16.requires.1.1.spaced,
+          c6.functions.ensures ∙ met_exact c16.args.notes.now c16.args.recs.now _ c16.requires.0
+              c16.requires.1.0,
+        ),
+      ),
+    )
 
 name-words-requires : tie.Need-name-words-requires
 name-words-requires c κs =

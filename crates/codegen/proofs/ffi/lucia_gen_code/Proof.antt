@@ -1,5 +1,5 @@
 use Rattle.codegen.proofs.AnswerLaws.{promised}
-use Rattle.pool.specs.Names.{semantic}
+use Rattle.pool.specs.Names.{names, semantic}
 use borrow.Author.Rules.{rules}
 use Rattle.codegen.proofs.ffi.lucia_gen_code.Statement.{statement}
 use Rattle.codegen.proofs.ffi.lucia_gen_code.Tie as tie
@@ -36,8 +36,7 @@ returns c =
     let t = semantic c33.args.symbols.now c33.args.references.now c33.args.functions.now c33.args.members.now in
     let g = c14.gen-code.ensures in
     promised _ _ t c33.args.records.now _ _ _ _ _ g.0 c2.report.ensures.0 c2.report.ensures.1
-    (record { markers = g.1.0; constants = g.1.1.0; names = g.1.1.1.0; errors = g.1.1.1.1.0; lines = g.1.1.1.1.1.0 })
-    g.1.1.1.1.1.1.0 g.1.1.1.1.1.1.1
+    (record { markers = g.1.0; constants = g.1.1.0; names = g.1.1.1.0; errors = g.1.1.1.1.0; lines = g.1.1.1.1.1.0 }) g.1.1.1.1.1.1
 
 pub lucia-gen-code-spec : {M : Type 1} → statement M
 lucia-gen-code-spec =

@@ -14,23 +14,25 @@ slice-write-line c = search rules
 
 slice-write-line-2 : tie.Need-slice-write-line-2
 slice-write-line-2 c =
-    let a = c.args in let h : 1 < length a.line.now = omega arith in lt-length-sets a.line.now 0 (_ ∷ []) h
+    let a = c.args in let h : 1 < length a.line.now = omega arith in lt-length-sets a.line.now 0 (a.markers ∷ []) h
 
 slice-write-line-3 : tie.Need-slice-write-line-3
 slice-write-line-3 c =
-    let a = c.args in let h : 2 < length a.line.now = omega arith in lt-length-sets a.line.now 0 (_ ∷ _ ∷ []) h
+    let a = c.args in let h : 2 < length a.line.now = omega arith in lt-length-sets a.line.now 0 (a.markers ∷ a.labels ∷ []) h
 
 slice-write-line-4 : tie.Need-slice-write-line-4
 slice-write-line-4 c =
-    let a = c.args in let h : 3 < length a.line.now = omega arith in lt-length-sets a.line.now 0 (_ ∷ _ ∷ _ ∷ []) h
+    let a = c.args in let h : 3 < length a.line.now = omega arith in lt-length-sets a.line.now 0 (a.markers ∷ a.labels ∷ a.constants ∷ []) h
 
 slice-write-line-5 : tie.Need-slice-write-line-5
 slice-write-line-5 c =
-    let a = c.args in let h : 4 < length a.line.now = omega arith in lt-length-sets a.line.now 0 (_ ∷ _ ∷ _ ∷ _ ∷ []) h
+    let a = c.args in let h : 4 < length a.line.now = omega arith in lt-length-sets a.line.now 0
+    (a.markers ∷ a.labels ∷ a.constants ∷ a.span.locals ∷ []) h
 
 slice-write-line-6 : tie.Need-slice-write-line-6
 slice-write-line-6 c =
-    let a = c.args in let h : 5 < length a.line.now = omega arith in lt-length-sets a.line.now 0 (_ ∷ _ ∷ _ ∷ _ ∷ _ ∷ []) h
+    let a = c.args in let h : 5 < length a.line.now = omega arith in lt-length-sets a.line.now 0
+    (a.markers ∷ a.labels ∷ a.constants ∷ a.span.locals ∷ a.span.globals ∷ []) h
 
 slice-write-line-7 : tie.Need-slice-write-line-7
 slice-write-line-7 c = search rules

@@ -6,6 +6,9 @@ use Rattle.codegen.proofs.walks.whole.Tie as tie
 begin-requires : tie.Need-begin-requires
 begin-requires c κs = search rules
 
+slice-aggregate-inner : tie.Need-slice-aggregate-inner
+slice-aggregate-inner c = search rules
+
 inner_requires : tie.Need-inner-requires
 inner_requires c κs = search rules
 
@@ -14,12 +17,14 @@ same_length c = search rules
 
 returns : tie.Need-returns
 returns c =
-    let c2 = c.before.before in
-    let c5 = c2.before.before.before in
-    let c9 = c5.before.before.before.before in (
-      whole_walked c9.args.notes.now c9.args.recs.now _ _ c9.args.frame.now _ _ c9.requires.1 c5.begin.ensures c2.inner.ensures.nests c9.requires.0,
-      whole_words c9.args.notes.now c9.args.recs.now _ _ c9.args.frame.now _ _ c9.requires.1 c5.begin.ensures c2.inner.ensures.nests c9.requires.0,
+    let c3 = c.before.before.before in
+    let c7 = c3.before.before.before.before in
+    let c11 = c7.before.before.before.before in
+    let a = c11.args in (
+      whole_walked a.notes.now a.recs.now _ _ _ _ a.frame.now _ _ c11.requires.1 c7.begin.ensures c3.inner.ensures c11.requires.0,
+      whole_words a.notes.now a.recs.now _ _ _ _ a.frame.now _ _ c11.requires.1 c7.begin.ensures c3.inner.ensures c11.requires.0,
     )
 
 pub whole-spec : {M : Type 1} → statement M
-whole-spec = tie.close (tie.spec begin-requires inner_requires same_length returns)
+whole-spec =
+    tie.close (tie.spec begin-requires slice-aggregate-inner inner_requires same_length returns)

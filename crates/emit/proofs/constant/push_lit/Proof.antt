@@ -1,5 +1,7 @@
 use Rattle.emit.proofs.ConstLaws.{lit_as, loads_as}
+use Rattle.pool.specs.ConstValues.{words_of}
 use borrow.Author.Rules.{rules}
+use mathlib.Core.Path.{ap}
 use Rattle.emit.proofs.constant.push_lit.Statement.{statement}
 use Rattle.emit.proofs.constant.push_lit.Tie as tie
 
@@ -21,14 +23,17 @@ push_load_const_requires c κs = search rules
 same_length : tie.Need-same-length
 same_length c = search rules
 
+same_length_2 : tie.Need-same-length-2
+same_length_2 c = search rules
+
 returns : tie.Need-returns
 returns c =
-    let c2 = c.before.before in
-    let c6 = c2.before.before.before.before in
-    let c7 = c6.before in
-    let c8 = c7.before in
+    let c4 = c.before.before.before.before in
+    let c8 = c4.before.before.before.before in
     let c9 = c8.before in
-    loads_as (lit_as c6.lit-value.ensures c9.detail.ensures c8.p.ensures c7.q.ensures) c2.push-load-const.ensures
+    let c10 = c9.before in
+    let c11 = c10.before in
+    loads_as (ap words_of (lit_as c8.lit-value.ensures c11.detail.ensures c10.p.ensures c9.q.ensures)) c4.push-load-const.ensures
 
 pub push-lit-spec : {M : Type 1} → statement M
 push-lit-spec =
@@ -40,4 +45,5 @@ push-lit-spec =
     lit-value-requires
     push_load_const_requires
     same_length
+    same_length_2
     returns)

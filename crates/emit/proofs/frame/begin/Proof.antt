@@ -41,6 +41,9 @@ code-number-requires c κs = search rules
 element-write-frame-10 : tie.Need-element-write-frame-10
 element-write-frame-10 c = search rules
 
+element-write-frame-11 : tie.Need-element-write-frame-11
+element-write-frame-11 c = search rules
+
 returns : tie.Need-returns
 returns c =
     let c1 = c.before in
@@ -57,11 +60,12 @@ begin-spec =
     element-write-frame-4
     element-write-frame-5
     element-write-frame-6
-    bit-requires
     element-write-frame-7
-    capped_requires
+    bit-requires
     element-write-frame-8
-    code-number-requires
+    capped_requires
     element-write-frame-9
+    code-number-requires
     element-write-frame-10
+    element-write-frame-11
     returns)

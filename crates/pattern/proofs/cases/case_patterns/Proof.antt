@@ -24,21 +24,26 @@ first-child-requires c κs =
 
 loop_holds : tie.Need-loop-init invariant-loop decreases-loop
 loop_holds c =
-    let c4 = c.before.before.before.before in
-    case_holds c4.args.recs.now c4.args.notes.now _ _ c.first-child.ensures
+    let c5 = c.before.before.before.before.before in
+    case_holds c5.args.recs.now c5.args.notes.now _ _ c.first-child.ensures
 
 same_length : tie.Need-same-length invariant-loop decreases-loop
 same_length c =
     let c2 = c.before.before in
     c2.loop.invariant.code
 
+same_length_2 : tie.Need-same-length-2 invariant-loop decreases-loop
+same_length_2 c =
+    let c2 = c.before.before in
+    c2.loop.invariant.consts
+
 returns : tie.Need-returns invariant-loop decreases-loop
 returns c =
     let c2 = c.before.before in
     let c3 = c2.before in
     let c4 = c3.before in
-    let c7 = c4.before.before.before in
-    case_short c7.args.recs.now c7.args.notes.now c2.loop.invariant c4.p.ensures c3.first-child.ensures c.if1.true
+    let c8 = c4.before.before.before.before in
+    case_short c8.args.recs.now c8.args.notes.now c2.loop.invariant c4.p.ensures c3.first-child.ensures c.if1.true
 
 test-requires : tie.Need-test-requires invariant-loop decreases-loop
 test-requires c κs =
@@ -50,8 +55,8 @@ next_requires c κs =
 
 add_i : tie.Need-overflow-add-i invariant-loop decreases-loop
 add_i c =
-    let c11 = c.before.before.before.before.before.before.before.before.before.before.before in
-    let g = c11.p.type-inv in omega arith
+    let c13 = c.before.before.before.before.before.before.before.before.before.before.before.before.before in
+    let g = c13.p.type-inv in omega arith
 
 loop_less : tie.Need-loop-smaller invariant-loop decreases-loop
 loop_less c =
@@ -59,25 +64,30 @@ loop_less c =
 
 loop_again : tie.Need-loop-preserved invariant-loop decreases-loop
 loop_again c =
-    let c3 = c.before.before.before in
-    let c7 = c3.before.before.before.before in
-    let c8 = c7.before in
-    let c9 = c8.before in
-    let c14 = c9.before.before.before.before.before in
-    case_again c14.args.recs.now c14.args.notes.now c9.loop.invariant c8.loop-test.true c7.if1.false c3.test.ensures c.next.ensures refl c3.test.auto.1.1.0
+    let c5 = c.before.before.before.before.before in
+    let c9 = c5.before.before.before.before in
+    let c10 = c9.before in
+    let c11 = c10.before in
+    let c17 = c11.before.before.before.before.before.before in
+    case_again c17.args.recs.now c17.args.notes.now c11.loop.invariant c10.loop-test.true c9.if1.false c5.test.ensures c.next.ensures refl c5.test.auto.1.1.0 c5.test.auto.1.1.1.0
 
-same_length_2 : tie.Need-same-length-2 invariant-loop decreases-loop
-same_length_2 c =
+same_length_3 : tie.Need-same-length-3 invariant-loop decreases-loop
+same_length_3 c =
     let c1 = c.before in
     c1.loop.invariant.code
+
+same_length_4 : tie.Need-same-length-4 invariant-loop decreases-loop
+same_length_4 c =
+    let c1 = c.before in
+    c1.loop.invariant.consts
 
 returns_2 : tie.Need-returns-2 invariant-loop decreases-loop
 returns_2 c =
     let c1 = c.before in
     let c2 = c1.before in
     let c3 = c2.before in
-    let c6 = c3.before.before.before in
-    case_done c6.args.recs.now c6.args.notes.now c1.loop.invariant c3.p.ensures c2.first-child.ensures c.loop-test.false
+    let c7 = c3.before.before.before.before in
+    case_done c7.args.recs.now c7.args.notes.now c1.loop.invariant c3.p.ensures c2.first-child.ensures c.loop-test.false
 
 pub case-patterns-spec : {M : Type 1} → statement M
 case-patterns-spec =
@@ -89,11 +99,13 @@ case-patterns-spec =
     first-child-requires
     loop_holds
     same_length
+    same_length_2
     returns
     test-requires
     next_requires
     add_i
     loop_less
     loop_again
-    same_length_2
+    same_length_3
+    same_length_4
     returns_2)

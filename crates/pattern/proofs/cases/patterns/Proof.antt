@@ -14,8 +14,8 @@ decreases-loop recs notes code₀ consts₀ frame₀ cases case₀ label₀ code
 
 loop_holds : tie.Need-loop-init invariant-loop decreases-loop
 loop_holds c =
-    let c2 = c.before.before in
-    cases_hold c2.args.recs.now c2.args.notes.now _ _ _ _
+    let c3 = c.before.before.before in
+    cases_hold c3.args.recs.now c3.args.notes.now _ _ _ _
 
 case-patterns-requires : tie.Need-case-patterns-requires invariant-loop decreases-loop
 case-patterns-requires c κs =
@@ -32,30 +32,36 @@ next_label_requires c κs =
 loop_less : tie.Need-loop-smaller invariant-loop decreases-loop
 loop_less c =
     let c1 = c.before in
-    let c8 = c1.before.before.before.before.before.before.before in
-    let c9 = c8.before in
-    let c12 = c9.before.before.before in
-    rank_less c12.args.recs.now c9.loop.case _ c8.loop-test.true c1.next.ensures
+    let c10 = c1.before.before.before.before.before.before.before.before.before in
+    let c11 = c10.before in
+    let c15 = c11.before.before.before.before in
+    rank_less c15.args.recs.now c11.loop.case _ c10.loop-test.true c1.next.ensures
 
 loop_again : tie.Need-loop-preserved invariant-loop decreases-loop
 loop_again c =
     let c1 = c.before in
-    let c4 = c1.before.before.before in
-    let c8 = c4.before.before.before.before in
-    let c9 = c8.before in
-    let c12 = c9.before.before.before in
-    cases_again c12.args.recs.now c12.args.notes.now c9.loop.invariant c8.loop-test.true c4.case-patterns.ensures c1.next.ensures c.next-label.ensures c4.case-patterns.auto.1.1.0
+    let c6 = c1.before.before.before.before.before in
+    let c10 = c6.before.before.before.before in
+    let c11 = c10.before in
+    let c15 = c11.before.before.before.before in
+    cases_again c15.args.recs.now c15.args.notes.now c11.loop.invariant c10.loop-test.true c6.case-patterns.ensures c1.next.ensures c.next-label.ensures c6.case-patterns.auto.1.1.0
+    c6.case-patterns.auto.1.1.1.0
 
 same_length : tie.Need-same-length invariant-loop decreases-loop
 same_length c =
     let c1 = c.before in
     c1.loop.invariant.code
 
+same_length_2 : tie.Need-same-length-2 invariant-loop decreases-loop
+same_length_2 c =
+    let c1 = c.before in
+    c1.loop.invariant.consts
+
 returns : tie.Need-returns invariant-loop decreases-loop
 returns c =
     let c1 = c.before in
-    let c4 = c1.before.before.before in
-    cases_done c4.args.recs.now c4.args.notes.now c1.loop.invariant c.loop-test.false
+    let c5 = c1.before.before.before.before in
+    cases_done c5.args.recs.now c5.args.notes.now c1.loop.invariant c.loop-test.false
 
 pub patterns-spec : {M : Type 1} → statement M
 patterns-spec =
@@ -70,4 +76,5 @@ patterns-spec =
     loop_less
     loop_again
     same_length
+    same_length_2
     returns)

@@ -27,20 +27,26 @@ same_length c =
     let c2 = c.before.before in
     let c7 = c2.before.before.before.before.before in
     let c12 = c7.before.before.before.before.before in
-    let c17 = c12.before.before.before.before.before in
-    let c23 = c17.before.before.before.before.before.before in
-    c2.clean-up.auto.0 ∙ c7.push-jump.auto.0 ∙ c12.push-pop.auto.0 ∙ c17.visit-pattern-depth.auto.1.1.0 ∙ c23.push-copy.auto.0
+    let c19 = c12.before.before.before.before.before.before.before in
+    let c25 = c19.before.before.before.before.before.before in
+    c2.clean-up.auto.0 ∙ c7.push-jump.auto.0 ∙ c12.push-pop.auto.0 ∙ c19.visit-pattern-depth.auto.1.1.0 ∙ c25.push-copy.auto.0
+
+same_length_2 : tie.Need-same-length-2
+same_length_2 c =
+    let c19 = c.before.before.before.before.before.before.before.before.before.before.before.before.before.before.before.before.before.before.before
+    in
+    c19.visit-pattern-depth.kept.1.1.1.0
 
 returns : tie.Need-returns
 returns c =
     let c2 = c.before.before in
     let c7 = c2.before.before.before.before.before in
     let c12 = c7.before.before.before.before.before in
-    let c17 = c12.before.before.before.before.before in
-    let c23 = c17.before.before.before.before.before.before in
-    let c26 = c23.before.before.before in
-    let c30 = c26.before.before.before.before in
-    pattern_tests c30.args.recs.now c30.args.notes.now c26.clean-stack.ensures c23.push-copy.ensures c17.visit-pattern-depth.ensures c12.push-pop.ensures c7.push-jump.ensures
+    let c19 = c12.before.before.before.before.before.before.before in
+    let c25 = c19.before.before.before.before.before.before in
+    let c28 = c25.before.before.before in
+    let c33 = c28.before.before.before.before.before in
+    pattern_tests c33.args.recs.now c33.args.notes.now c28.clean-stack.ensures c25.push-copy.ensures c19.visit-pattern-depth.ensures c12.push-pop.ensures c7.push-jump.ensures
     c2.clean-up.ensures
 
 pub test-spec : {M : Type 1} → statement M
@@ -54,4 +60,5 @@ test-spec =
     push_jump_requires
     clean-up-requires
     same_length
+    same_length_2
     returns)

@@ -119,19 +119,19 @@ module _ (t : ℕ) where
 
   list_loop_holds : list-lts.Need-loop-init (list_calls t) (list_at t) list.Post list_Inv_loop list-μ-loop
   list_loop_holds c =
-      let c11 = c.before.before.before.before.before.before.before.before.before.before.before in
-      let c15 = c11.before.before.before.before in
-      turn_holds c15.args.recs.now c15.args.notes.now item-part _ _ _ c11.first.ensures
+      let c13 = c.before.before.before.before.before.before.before.before.before.before.before.before.before in
+      let c18 = c13.before.before.before.before.before in
+      turn_holds c18.args.recs.now c18.args.notes.now item-part _ _ _ c13.first.ensures
 
   list_push_item_requires : list-lts.Need-push-item-requires (list_calls t) (list_at t) list.Post list_Inv_loop list-μ-loop
   list_push_item_requires c κs = tt
 
   list_visit_pattern_depth_requires : list-lts.Need-visit-pattern-depth-requires (list_calls t) (list_at t) list.Post list_Inv_loop list-μ-loop
   list_visit_pattern_depth_requires c κs =
-      let c10 = c.before.before.before.before.before.before.before.before.before.before in
-      let c22 = c10.before.before.before.before.before.before.before.before.before.before.before.before in
-      let c26 = c22.before.before.before.before in
-      (child_falls c26.args.recs.now c26.args.pattern _ c10.loop.item t c22.first.ensures c10.loop.invariant.fall c26.requires.0, tt)
+      let c12 = c.before.before.before.before.before.before.before.before.before.before.before.before in
+      let c26 = c12.before.before.before.before.before.before.before.before.before.before.before.before.before.before in
+      let c31 = c26.before.before.before.before.before in
+      (child_falls c31.args.recs.now c31.args.pattern _ c12.loop.item t c26.first.ensures c12.loop.invariant.fall c31.requires.0, tt)
 
   list_next_requires : list-lts.Need-next-requires (list_calls t) (list_at t) list.Post list_Inv_loop list-μ-loop
   list_next_requires c κs = tt
@@ -142,22 +142,22 @@ module _ (t : ℕ) where
   list_loop_less : list-lts.Need-loop-smaller (list_calls t) (list_at t) list.Post list_Inv_loop list-μ-loop
   list_loop_less c =
       let c1 = c.before in
-      let c14 = c1.before.before.before.before.before.before.before.before.before.before.before.before.before in
-      let c15 = c14.before in
-      let c31 = c15.before.before.before.before.before.before.before.before.before.before.before.before.before.before.before.before in
-      rank_less c31.args.recs.now c15.loop.item _ c14.loop-test.true c1.next.ensures
+      let c18 = c1.before.before.before.before.before.before.before.before.before.before.before.before.before.before.before.before.before in
+      let c19 = c18.before in
+      let c38 = c19.before.before.before.before.before.before.before.before.before.before.before.before.before.before.before.before.before.before.before in
+      rank_less c38.args.recs.now c19.loop.item _ c18.loop-test.true c1.next.ensures
 
   list_loop_again : list-lts.Need-loop-preserved (list_calls t) (list_at t) list.Post list_Inv_loop list-μ-loop
   list_loop_again c =
       let c1 = c.before in
-      let c4 = c1.before.before.before in
-      let c10 = c4.before.before.before.before.before.before in
-      let c14 = c10.before.before.before.before in
-      let c15 = c14.before in
-      let c31 = c15.before.before.before.before.before.before.before.before.before.before.before.before.before.before.before.before in
-      turn_item c31.args.recs.now c31.args.notes.now c15.loop.invariant c14.loop-test.true c10.push-item.ensures c4.visit-pattern-depth.ensures
+      let c6 = c1.before.before.before.before.before in
+      let c14 = c6.before.before.before.before.before.before.before.before in
+      let c18 = c14.before.before.before.before in
+      let c19 = c18.before in
+      let c38 = c19.before.before.before.before.before.before.before.before.before.before.before.before.before.before.before.before.before.before.before in
+      turn_item c38.args.recs.now c38.args.notes.now c19.loop.invariant c18.loop-test.true c14.push-item.ensures c6.visit-pattern-depth.ensures
       c1.next.ensures c.inc2.ensures
-      (c4.visit-pattern-depth.auto.1.1.0 ∙ c10.push-item.auto.1.0)
+      (c6.visit-pattern-depth.auto.1.1.0 ∙ c14.push-item.auto.1.0) (c6.visit-pattern-depth.auto.1.1.1.0 ∙ c14.push-item.auto.1.1.0)
 
   list_push_pop_requires : list-lts.Need-push-pop-requires (list_calls t) (list_at t) list.Post list_Inv_loop list-μ-loop
   list_push_pop_requires c κs = tt
@@ -166,24 +166,30 @@ module _ (t : ℕ) where
   list_same_length c =
       let c2 = c.before.before in
       let c6 = c2.before.before.before.before in
-      let c9 = c6.before.before.before in
-      c2.push-pop.auto.0 ∙ c6.loop.invariant.code ∙ c9.push-table-test.auto.1.0
+      let c11 = c6.before.before.before.before.before in
+      c2.push-pop.auto.0 ∙ c6.loop.invariant.code ∙ c11.push-table-test.auto.1.0
+
+  list_same_length_2 : list-lts.Need-same-length-2 (list_calls t) (list_at t) list.Post list_Inv_loop list-μ-loop
+  list_same_length_2 c =
+      let c6 = c.before.before.before.before.before.before in
+      let c11 = c6.before.before.before.before.before in
+      c6.loop.invariant.consts ∙ c11.push-table-test.auto.1.1.0
 
   list_returns : list-lts.Need-returns (list_calls t) (list_at t) list.Post list_Inv_loop list-μ-loop
   list_returns c =
       let c2 = c.before.before in
       let c5 = c2.before.before.before in
       let c6 = c5.before in
-      let c9 = c6.before.before.before in
-      let c13 = c9.before.before.before.before in
-      let c14 = c13.before in
-      let c15 = c14.before in
+      let c11 = c6.before.before.before.before.before in
+      let c15 = c11.before.before.before.before in
       let c16 = c15.before in
-      let c18 = c16.before.before in
-      let c19 = c18.before in
-      let c22 = c19.before.before.before in
-      list_visits c22.args.recs.now c22.args.notes.now c18.first.ensures c15.width.ensures c19.inc.ensures c16.deepened.ensures c13.clean-stack-label.ensures c9.push-table-test.ensures
-      c14.capped.ensures c6.loop.invariant c5.loop-test.false c2.push-pop.ensures
+      let c17 = c16.before in
+      let c18 = c17.before in
+      let c20 = c18.before.before in
+      let c21 = c20.before in
+      let c25 = c21.before.before.before.before in
+      list_visits c25.args.recs.now c25.args.notes.now c20.first.ensures c17.width.ensures c21.inc.ensures c18.deepened.ensures c15.clean-stack-label.ensures c11.push-table-test.ensures
+      c16.capped.ensures c6.loop.invariant c5.loop-test.false c2.push-pop.ensures
 
 abbrev table_calls : ℕ → table-lts.Claims
 table_calls t = (
@@ -243,9 +249,9 @@ module _ (t : ℕ) where
 
   table_loop_holds : table-lts.Need-loop-init (table_calls t) (table_at t) table.Post table_Inv_loop table-μ-loop
   table_loop_holds c =
-      let c11 = c.before.before.before.before.before.before.before.before.before.before.before in
-      let c15 = c11.before.before.before.before in
-      record { i = 0; turn = turn_holds c15.args.recs.now c15.args.notes.now key-part _ _ _ c11.first.ensures }
+      let c13 = c.before.before.before.before.before.before.before.before.before.before.before.before.before in
+      let c18 = c13.before.before.before.before.before in
+      record { i = 0; turn = turn_holds c18.args.recs.now c18.args.notes.now key-part _ _ _ c13.first.ensures }
 
   table_next_requires : table-lts.Need-next-requires (table_calls t) (table_at t) table.Post table_Inv_loop table-μ-loop
   table_next_requires c κs = tt
@@ -255,12 +261,12 @@ module _ (t : ℕ) where
 
   table_visit_pattern_depth_requires : table-lts.Need-visit-pattern-depth-requires (table_calls t) (table_at t) table.Post table_Inv_loop table-μ-loop
   table_visit_pattern_depth_requires c κs =
-      let c9 = c.before.before.before.before.before.before.before.before.before in
-      let c11 = c9.before.before in
-      let c23 = c11.before.before.before.before.before.before.before.before.before.before.before.before in
-      let c27 = c23.before.before.before.before in (
-        child_falls c27.args.recs.now c27.args.pattern _ c9.next.result t c23.first.ensures
-            (let z = rank_next c27.args.recs.now c11.loop.key _ c9.next.ensures in omega (arith, z, c11.loop.invariant.turn.fall)) c27.requires.0,
+      let c11 = c.before.before.before.before.before.before.before.before.before.before.before in
+      let c13 = c11.before.before in
+      let c27 = c13.before.before.before.before.before.before.before.before.before.before.before.before.before.before in
+      let c32 = c27.before.before.before.before.before in (
+        child_falls c32.args.recs.now c32.args.pattern _ c11.next.result t c27.first.ensures
+            (let z = rank_next c32.args.recs.now c13.loop.key _ c11.next.ensures in omega (arith, z, c13.loop.invariant.turn.fall)) c32.requires.0,
         tt,
       )
 
@@ -269,27 +275,26 @@ module _ (t : ℕ) where
 
   table_loop_less : table-lts.Need-loop-smaller (table_calls t) (table_at t) table.Post table_Inv_loop table-μ-loop
   table_loop_less c =
-      let c13 = c.before.before.before.before.before.before.before.before.before.before.before.before.before in
-      let c14 = c13.before in
-      let c15 = c14.before in
-      let c31 = c15.before.before.before.before.before.before.before.before.before.before.before.before.before.before.before.before in
-      let y = rank_less c31.args.recs.now c15.loop.key _ c14.loop-test.true c13.next.ensures in
-      let z = rank_next c31.args.recs.now _ _ c.next2.ensures in
+      let c17 = c.before.before.before.before.before.before.before.before.before.before.before.before.before.before.before.before.before in
+      let c18 = c17.before in
+      let c19 = c18.before in
+      let c38 = c19.before.before.before.before.before.before.before.before.before.before.before.before.before.before.before.before.before.before.before in
+      let y = rank_less c38.args.recs.now c19.loop.key _ c18.loop-test.true c17.next.ensures in
+      let z = rank_next c38.args.recs.now _ _ c.next2.ensures in
       omega (arith, y, z)
 
   table_loop_again : table-lts.Need-loop-preserved (table_calls t) (table_at t) table.Post table_Inv_loop table-μ-loop
   table_loop_again c =
-      let c3 = c.before.before.before in
-      let c9 = c3.before.before.before.before.before.before in
-      let c13 = c9.before.before.before.before in
-      let c14 = c13.before in
-      let c15 = c14.before in
-      let c31 = c15.before.before.before.before.before.before.before.before.before.before.before.before.before.before.before.before in
+      let c5 = c.before.before.before.before.before in
+      let c13 = c5.before.before.before.before.before.before.before.before in
+      let c17 = c13.before.before.before.before in
+      let c18 = c17.before in
+      let c19 = c18.before in
+      let c38 = c19.before.before.before.before.before.before.before.before.before.before.before.before.before.before.before.before.before.before.before in
       record {
-        i = suc (suc c15.loop.invariant.i);
-        turn = turn_pair c31.args.recs.now c31.args.notes.now c15.loop.invariant.turn c14.loop-test.true c13.next.ensures c9.push-value.ensures
-            c3.visit-pattern-depth.ensures
-            c.next2.ensures (c3.visit-pattern-depth.auto.1.1.0 ∙ c9.push-value.auto.1.0);
+        i = suc (suc c19.loop.invariant.i);
+        turn = turn_pair c38.args.recs.now c38.args.notes.now c19.loop.invariant.turn c18.loop-test.true c17.next.ensures c13.push-value.ensures c5.visit-pattern-depth.ensures
+            c.next2.ensures (c5.visit-pattern-depth.auto.1.1.0 ∙ c13.push-value.auto.1.0) (c5.visit-pattern-depth.auto.1.1.1.0 ∙ c13.push-value.auto.1.1.0);
       }
 
   table_push_pop_requires : table-lts.Need-push-pop-requires (table_calls t) (table_at t) table.Post table_Inv_loop table-μ-loop
@@ -299,24 +304,30 @@ module _ (t : ℕ) where
   table_same_length c =
       let c2 = c.before.before in
       let c6 = c2.before.before.before.before in
-      let c9 = c6.before.before.before in
-      c2.push-pop.auto.0 ∙ c6.loop.invariant.turn.code ∙ c9.push-table-test.auto.1.0
+      let c11 = c6.before.before.before.before.before in
+      c2.push-pop.auto.0 ∙ c6.loop.invariant.turn.code ∙ c11.push-table-test.auto.1.0
+
+  table_same_length_2 : table-lts.Need-same-length-2 (table_calls t) (table_at t) table.Post table_Inv_loop table-μ-loop
+  table_same_length_2 c =
+      let c6 = c.before.before.before.before.before.before in
+      let c11 = c6.before.before.before.before.before in
+      c6.loop.invariant.turn.consts ∙ c11.push-table-test.auto.1.1.0
 
   table_returns : table-lts.Need-returns (table_calls t) (table_at t) table.Post table_Inv_loop table-μ-loop
   table_returns c =
       let c2 = c.before.before in
       let c5 = c2.before.before.before in
       let c6 = c5.before in
-      let c9 = c6.before.before.before in
-      let c13 = c9.before.before.before.before in
-      let c14 = c13.before in
-      let c15 = c14.before in
+      let c11 = c6.before.before.before.before.before in
+      let c15 = c11.before.before.before.before in
       let c16 = c15.before in
-      let c18 = c16.before.before in
-      let c19 = c18.before in
-      let c22 = c19.before.before.before in
-      table_visits c22.args.recs.now c22.args.notes.now c18.first.ensures c15.width.ensures c19.inc.ensures c16.deepened.ensures c13.clean-stack-label.ensures c9.push-table-test.ensures
-      c14.capped.ensures c6.loop.invariant.turn c5.loop-test.false c2.push-pop.ensures
+      let c17 = c16.before in
+      let c18 = c17.before in
+      let c20 = c18.before.before in
+      let c21 = c20.before in
+      let c25 = c21.before.before.before.before in
+      table_visits c25.args.recs.now c25.args.notes.now c20.first.ensures c17.width.ensures c21.inc.ensures c18.deepened.ensures c15.clean-stack-label.ensures c11.push-table-test.ensures
+      c16.capped.ensures c6.loop.invariant.turn c5.loop-test.false c2.push-pop.ensures
 
 abbrev visit_calls : ℕ → visit-lts.Claims
 visit_calls t = (
@@ -337,8 +348,8 @@ visit_calls t = (
 module _ (t : ℕ) where
   visit_returns : visit-lts.Need-returns (visit_calls t) (visit_at t) visit.Post
   visit_returns c =
-      let c3 = c.before.before.before in
-      visit_none c3.args.recs.now c3.args.notes.now c.if1.true
+      let c4 = c.before.before.before.before in
+      visit_none c4.args.recs.now c4.args.notes.now c.if1.true
 
   visit_clean_stack_label_requires : visit-lts.Need-clean-stack-label-requires (visit_calls t) (visit_at t) visit.Post
   visit_clean_stack_label_requires c κs = tt
@@ -349,14 +360,14 @@ module _ (t : ℕ) where
   visit_table_requires : visit-lts.Need-table-requires (visit_calls t) (visit_at t) visit.Post
   visit_table_requires c κs =
       let c6 = c.before.before.before.before.before.before in
-      let c9 = c6.before.before.before in
-      (nested_falls c9.args.recs.now c9.args.pattern t c6.if1.false c9.requires.0, tt)
+      let c10 = c6.before.before.before.before in
+      (nested_falls c10.args.recs.now c10.args.pattern t c6.if1.false c10.requires.0, tt)
 
   visit_list_requires : visit-lts.Need-list-requires (visit_calls t) (visit_at t) visit.Post
   visit_list_requires c κs =
       let c6 = c.before.before.before.before.before.before in
-      let c9 = c6.before.before.before in
-      (nested_falls c9.args.recs.now c9.args.pattern t c6.if1.false c9.requires.0, tt)
+      let c10 = c6.before.before.before.before in
+      (nested_falls c10.args.recs.now c10.args.pattern t c6.if1.false c10.requires.0, tt)
 
   visit_ident_requires : visit-lts.Need-ident-requires (visit_calls t) (visit_at t) visit.Post
   visit_ident_requires c κs = tt
@@ -366,32 +377,42 @@ module _ (t : ℕ) where
 
   visit_same_length : visit-lts.Need-same-length (visit_calls t) (visit_at t) visit.Post
   visit_same_length c =
-      let c2 = c.before.before in
-      c2.table.auto.1.1.0
-
-  visit_returns_2 : visit-lts.Need-returns-2 (visit_calls t) (visit_at t) visit.Post
-  visit_returns_2 c =
-      let c2 = c.before.before in
-      let c6 = c2.before.before.before.before in
-      let c7 = c6.before in
-      let c9 = c7.before.before in
-      c2.table.ensures.visits (sym c7.kind.ensures ∙ c6.match.keys1) c9.if1.false
+      let c4 = c.before.before.before.before in
+      c4.table.auto.1.1.0
 
   visit_same_length_2 : visit-lts.Need-same-length-2 (visit_calls t) (visit_at t) visit.Post
   visit_same_length_2 c =
-      let c2 = c.before.before in
-      c2.list.auto.1.1.0
+      let c4 = c.before.before.before.before in
+      c4.table.auto.1.1.1.0
 
-  visit_returns_3 : visit-lts.Need-returns-3 (visit_calls t) (visit_at t) visit.Post
-  visit_returns_3 c =
-      let c2 = c.before.before in
-      let c6 = c2.before.before.before.before in
-      let c7 = c6.before in
-      let c9 = c7.before.before in
-      c2.list.ensures.visits (sym c7.kind.ensures ∙ c6.match.keys2) c9.if1.false
+  visit_returns_2 : visit-lts.Need-returns-2 (visit_calls t) (visit_at t) visit.Post
+  visit_returns_2 c =
+      let c4 = c.before.before.before.before in
+      let c8 = c4.before.before.before.before in
+      let c9 = c8.before in
+      let c11 = c9.before.before in
+      c4.table.ensures.visits (sym c9.kind.ensures ∙ c8.match.keys1) c11.if1.false
 
   visit_same_length_3 : visit-lts.Need-same-length-3 (visit_calls t) (visit_at t) visit.Post
   visit_same_length_3 c =
+      let c4 = c.before.before.before.before in
+      c4.list.auto.1.1.0
+
+  visit_same_length_4 : visit-lts.Need-same-length-4 (visit_calls t) (visit_at t) visit.Post
+  visit_same_length_4 c =
+      let c4 = c.before.before.before.before in
+      c4.list.auto.1.1.1.0
+
+  visit_returns_3 : visit-lts.Need-returns-3 (visit_calls t) (visit_at t) visit.Post
+  visit_returns_3 c =
+      let c4 = c.before.before.before.before in
+      let c8 = c4.before.before.before.before in
+      let c9 = c8.before in
+      let c11 = c9.before.before in
+      c4.list.ensures.visits (sym c9.kind.ensures ∙ c8.match.keys2) c11.if1.false
+
+  visit_same_length_5 : visit-lts.Need-same-length-5 (visit_calls t) (visit_at t) visit.Post
+  visit_same_length_5 c =
       let c2 = c.before.before in
       c2.ident.auto.1.0
 
@@ -402,25 +423,30 @@ module _ (t : ℕ) where
       let c6 = c5.before in
       let c7 = c6.before in
       let c8 = c7.before in
-      let c11 = c8.before.before.before in
-      visit_ident c11.args.recs.now c11.args.notes.now c8.if1.false c7.clean-stack-label.ensures (sym c6.kind.ensures ∙ c5.match.keys3) c2.ident.ensures
+      let c12 = c8.before.before.before.before in
+      visit_ident c12.args.recs.now c12.args.notes.now c8.if1.false c7.clean-stack-label.ensures (sym c6.kind.ensures ∙ c5.match.keys3) c2.ident.ensures
 
-  visit_same_length_4 : visit-lts.Need-same-length-4 (visit_calls t) (visit_at t) visit.Post
-  visit_same_length_4 c =
-      let c2 = c.before.before in
-      c2.lit.auto.1.0
+  visit_same_length_6 : visit-lts.Need-same-length-6 (visit_calls t) (visit_at t) visit.Post
+  visit_same_length_6 c =
+      let c4 = c.before.before.before.before in
+      c4.lit.auto.1.0
+
+  visit_same_length_7 : visit-lts.Need-same-length-7 (visit_calls t) (visit_at t) visit.Post
+  visit_same_length_7 c =
+      let c4 = c.before.before.before.before in
+      c4.lit.auto.1.1.0
 
   visit_returns_5 : visit-lts.Need-returns-5 (visit_calls t) (visit_at t) visit.Post
   visit_returns_5 c =
-      let c2 = c.before.before in
-      let c6 = c2.before.before.before.before in
-      let c7 = c6.before in
-      let c8 = c7.before in
+      let c4 = c.before.before.before.before in
+      let c8 = c4.before.before.before.before in
       let c9 = c8.before in
-      let c12 = c9.before.before.before in
-      let k = c6.match.rest in
-      visit_lit c12.args.recs.now c12.args.notes.now c9.if1.false c8.clean-stack-label.ensures (λ z. k.0.0.1 (c7.kind.ensures ∙ z)) (λ z. k.0.1 (c7.kind.ensures ∙ z))
-      (λ z. k.1 (c7.kind.ensures ∙ z)) c2.lit.ensures
+      let c10 = c9.before in
+      let c11 = c10.before in
+      let c15 = c11.before.before.before.before in
+      let k = c8.match.rest in
+      visit_lit c15.args.recs.now c15.args.notes.now c11.if1.false c10.clean-stack-label.ensures (λ z. k.0.0.1 (c9.kind.ensures ∙ z)) (λ z. k.0.1 (c9.kind.ensures ∙ z))
+      (λ z. k.1 (c9.kind.ensures ∙ z)) c4.lit.ensures
 
 pub +list-table-visit-pattern-depth-spec : {M : Type 1} → statement M
 +list-table-visit-pattern-depth-spec =
@@ -428,12 +454,12 @@ pub +list-table-visit-pattern-depth-spec : {M : Type 1} → statement M
     (λ t. list-lts.spec (list_calls t) (list_at t) list.Post list_Inv_loop list-μ-loop (list_inc_requires t) (list_first_requires t) (list_deepened_requires t)
     (list_width_requires t) (list_capped_requires t) (list_clean_stack_label_requires t) (list_push_table_test_requires t) (list_loop_holds t)
     (list_push_item_requires t) (list_visit_pattern_depth_requires t) (list_next_requires t) (list_inc_requires_2 t) (list_loop_less t) (list_loop_again t)
-    (list_push_pop_requires t) (list_same_length t) (list_returns t))
+    (list_push_pop_requires t) (list_same_length t) (list_same_length_2 t) (list_returns t))
     (λ t. table-lts.spec (table_calls t) (table_at t) table.Post table_Inv_loop table-μ-loop (table_inc_requires t) (table_first_requires t) (table_deepened_requires
     t) (table_width_requires t) (table_capped_requires t) (table_clean_stack_label_requires t) (table_push_table_test_requires t) (table_loop_holds t)
     (table_next_requires t) (table_push_value_requires t) (table_visit_pattern_depth_requires t) (table_next_requires_2 t) (table_loop_less t) (table_loop_again t)
-    (table_push_pop_requires t) (table_same_length t) (table_returns t))
+    (table_push_pop_requires t) (table_same_length t) (table_same_length_2 t) (table_returns t))
     (λ t. visit-lts.spec (visit_calls t) (visit_at t) visit.Post (visit_returns t) (visit_clean_stack_label_requires t) (visit_kind_requires t) (visit_table_requires
-    t) (visit_list_requires t) (visit_ident_requires t) (visit_lit_requires t) (visit_same_length t) (visit_returns_2 t) (visit_same_length_2 t) (visit_returns_3 t)
-    (visit_same_length_3 t) (visit_returns_4 t) (visit_same_length_4 t)
+    t) (visit_list_requires t) (visit_ident_requires t) (visit_lit_requires t) (visit_same_length t) (visit_same_length_2 t) (visit_returns_2 t)
+    (visit_same_length_3 t) (visit_same_length_4 t) (visit_returns_3 t) (visit_same_length_5 t) (visit_returns_4 t) (visit_same_length_6 t) (visit_same_length_7 t)
     (visit_returns_5 t))

@@ -30,7 +30,7 @@ returns c =
     let c4 = c1.before.before.before in
     let c9 = c4.before.before.before.before.before in
     let c14 = c9.before.before.before.before.before in
-    record {
+    λ q. record {
       moves = λ r y e. record {
         moves = λ v o₀ A h.
             let h1 = said r Copy 1 refl refl c14.push-copy.ensures h in
@@ -59,39 +59,42 @@ same_length_2 : tie.Need-same-length-2
 same_length_2 c =
     let c2 = c.before.before in
     let c7 = c2.before.before.before.before.before in
-    let c12 = c7.before.before.before.before.before in
-    let c18 = c12.before.before.before.before.before.before in
-    let c23 = c18.before.before.before.before.before in
-    let c30 = c23.before.before.before.before.before.before.before in
-    let c35 = c30.before.before.before.before.before in
-    let c40 = c35.before.before.before.before.before in
-    c2.push-pop-jump-if-false2.auto.0 ∙ c7.push-eq.auto.0 ∙ c12.push-load-const.auto.1.0 ∙ c18.push-get-len.auto.0 ∙ c23.push-copy2.auto.0 ∙ c30.push-pop-jump-if-false.auto.0 ∙ c35.push-type-check.auto.0 ∙ c40.push-copy.auto.0
+    let c14 = c7.before.before.before.before.before.before.before in
+    let c20 = c14.before.before.before.before.before.before in
+    let c25 = c20.before.before.before.before.before in
+    let c32 = c25.before.before.before.before.before.before.before in
+    let c37 = c32.before.before.before.before.before in
+    let c42 = c37.before.before.before.before.before in
+    c2.push-pop-jump-if-false2.auto.0 ∙ c7.push-eq.auto.0 ∙ c14.push-load-const.auto.1.0 ∙ c20.push-get-len.auto.0 ∙ c25.push-copy2.auto.0 ∙ c32.push-pop-jump-if-false.auto.0 ∙ c37.push-type-check.auto.0 ∙ c42.push-copy.auto.0
+
+same_length_3 : tie.Need-same-length-3
+same_length_3 c = search rules
 
 returns_2 : tie.Need-returns-2
 returns_2 c =
     let c2 = c.before.before in
     let c7 = c2.before.before.before.before.before in
-    let c12 = c7.before.before.before.before.before in
-    let c18 = c12.before.before.before.before.before.before in
-    let c23 = c18.before.before.before.before.before in
-    let c26 = c23.before.before.before in
-    let c27 = c26.before in
-    let c30 = c27.before.before.before in
-    let c35 = c30.before.before.before.before.before in
-    let c40 = c35.before.before.before.before.before in
-    let c45 = c40.before.before.before.before.before in
-    record {
+    let c14 = c7.before.before.before.before.before.before.before in
+    let c20 = c14.before.before.before.before.before.before in
+    let c25 = c20.before.before.before.before.before in
+    let c28 = c25.before.before.before in
+    let c29 = c28.before in
+    let c32 = c29.before.before.before in
+    let c37 = c32.before.before.before.before.before in
+    let c42 = c37.before.before.before.before.before in
+    let c48 = c42.before.before.before.before.before.before in
+    λ q. record {
       moves = λ r y e. record {
         moves = λ v o₀ A h.
-            let h1 = said r Copy 1 refl refl c40.push-copy.ensures h in
-            let h2 = said r TypeCheck 6 refl refl c35.push-type-check.ensures h1 in
-            let h3 = jumped r PopJumpIfFalse y refl e c30.push-pop-jump-if-false.ensures h2 in
-            let h4 = said r Copy 1 refl refl c23.push-copy2.ensures h3 in
-            let h5 = said r GetLen 0 refl refl c18.push-get-len.ensures h4 in
-            let h6 = int_loaded c45.args.pattern c45.args.n refl c12.push-load-const.ensures h5 in
+            let h1 = said r Copy 1 refl refl c42.push-copy.ensures h in
+            let h2 = said r TypeCheck 6 refl refl c37.push-type-check.ensures h1 in
+            let h3 = jumped r PopJumpIfFalse y refl e c32.push-pop-jump-if-false.ensures h2 in
+            let h4 = said r Copy 1 refl refl c25.push-copy2.ensures h3 in
+            let h5 = said r GetLen 0 refl refl c20.push-get-len.ensures h4 in
+            let h6 = int_loaded q c48.args.n refl c14.push-load-const.ensures h5 in
             let h7 = said r Eq 0 refl refl c7.push-eq.ensures h6 in
             let h8 = jumped r PopJumpIfFalse y refl e c2.push-pop-jump-if-false2.ensures h7 in
-            given (on_false _ _ _ (ne_eqb _ _ (λ z. c26.if1.false (c27.detail.ensures ∙ z)))) h8;
+            given (on_false _ _ _ (ne_eqb _ _ (λ z. c28.if1.false (c29.detail.ensures ∙ z)))) h8;
       };
     }
 
@@ -111,4 +114,5 @@ push-table-test-spec =
     push-eq-requires
     push-pop-jump-if-false-requires-2
     same_length_2
+    same_length_3
     returns_2)

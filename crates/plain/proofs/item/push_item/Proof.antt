@@ -18,16 +18,19 @@ push_get_item_requires c κs = search rules
 same_length : tie.Need-same-length
 same_length c = search rules
 
+same_length_2 : tie.Need-same-length-2
+same_length_2 c = search rules
+
 returns : tie.Need-returns
 returns c =
     let c2 = c.before.before in
-    let c7 = c2.before.before.before.before.before in
-    let c13 = c7.before.before.before.before.before.before in
-    let c18 = c13.before.before.before.before.before in
+    let c9 = c2.before.before.before.before.before.before.before in
+    let c15 = c9.before.before.before.before.before.before in
+    let c21 = c15.before.before.before.before.before.before in
     record {
-      moves = λ r. record {
-        moves = λ m o₀ A h. said r GetItem 0 refl refl c2.push-get-item.ensures (int_loaded c18.args.r c18.args.i refl c7.push-load-const.ensures (said
-            r Copy 1 refl refl c13.push-copy.ensures h));
+      moves = λ r q. record {
+        moves = λ m o₀ A h. said r GetItem 0 refl refl c2.push-get-item.ensures (int_loaded q c21.args.i refl c9.push-load-const.ensures (said r Copy 1
+            refl refl c15.push-copy.ensures h));
       };
     }
 
@@ -39,4 +42,5 @@ push-item-spec =
     push_load_const_requires
     push_get_item_requires
     same_length
+    same_length_2
     returns)

@@ -2,7 +2,8 @@ use Rattle.emit.proofs.LeaveLaws.{left_some}
 use Rattle.emit.specs.Does.{does, doing}
 use Rattle.plain.proofs.EndLaws.{break_behind, cut_off, no_break}
 use Rattle.plain.proofs.LeafLaws.{nulled}
-use Rattle.rules.specs.Marker.{Break}
+use Rattle.pool.specs.Value.{Null}
+use Rattle.rules.specs.Marker.{Break, Load, LoadConst, mark}
 use Rattle.rules.specs.Run.{exec}
 use Rattle.tables.specs.Record.{words}
 use borrow.Author.Rules.{rules}
@@ -27,9 +28,10 @@ unfolding does doing exec
 returns c =
     let c2 = c.before.before in
     let c4 = c2.before.before in
-    let c8 = c4.before.before.before.before in
-    λ notes consts. record {
-      sim = λ z m o₀ A h. cut_off c8.args.frame.now c8.args.r (words c8.args.recs.now c8.args.r) Break (no_break c8.args.frame.now (sym c4.break-label.ensures ∙ c2.enum_told.given.1)) c.cut.ensures h;
+    let c9 = c4.before.before.before.before.before in
+    λ notes. record {
+      sim = λ z m o₀ A h. cut_off c9.args.frame.now c9.args.r (words c9.args.recs.now c9.args.r) Break (mark c9.args.r (Load
+          LoadConst Null)) (no_break c9.args.frame.now (sym c4.break-label.ensures ∙ c2.enum_told.given.1)) c.cut.ensures h;
     }
 
 push-break-requires : tie.Need-push-break-requires
@@ -41,19 +43,22 @@ push_null_requires c κs = search rules
 same_length : tie.Need-same-length
 same_length c = search rules
 
+same_length_2 : tie.Need-same-length-2
+same_length_2 c = search rules
+
 returns_2 : tie.Need-returns-2
 unfolding does doing exec
 returns_2 c =
-    let c2 = c.before.before in
-    let c7 = c2.before.before.before.before.before in
-    let c11 = c7.before.before.before.before in
-    let c13 = c11.before.before in
-    let c17 = c13.before.before.before.before in
-    λ notes consts. record {
+    let c4 = c.before.before.before.before in
+    let c10 = c4.before.before.before.before.before.before in
+    let c14 = c10.before.before.before.before in
+    let c16 = c14.before.before in
+    let c21 = c16.before.before.before.before.before in
+    λ notes. record {
       sim = λ z m o₀ A h.
-          let q = break_behind c17.args.frame.now _ (sym c13.break-label.ensures ∙ c11.label.given.1) in
-          let h1 = left_some c17.args.r (words c17.args.recs.now c17.args.r) Break refl q.0 q.1 c7.push-break.ensures h in
-          nulled c17.args.r c2.push-null.ensures h1;
+          let q = break_behind c21.args.frame.now _ (sym c16.break-label.ensures ∙ c14.label.given.1) in
+          let h1 = left_some c21.args.r (words c21.args.recs.now c21.args.r) Break refl q.0 q.1 c10.push-break.ensures h in
+          nulled c21.args.r c4.push-null.ensures h1;
     }
 
 pub break-loop-spec : {M : Type 1} → statement M
@@ -68,4 +73,5 @@ break-loop-spec =
     push-break-requires
     push_null_requires
     same_length
+    same_length_2
     returns_2)

@@ -2,7 +2,8 @@ use Rattle.emit.proofs.LeaveLaws.{left_some}
 use Rattle.emit.specs.Does.{does, doing}
 use Rattle.plain.proofs.EndLaws.{cut_off}
 use Rattle.plain.proofs.LeafLaws.{nulled}
-use Rattle.rules.specs.Marker.{Continue}
+use Rattle.pool.specs.Value.{Null}
+use Rattle.rules.specs.Marker.{Continue, Load, LoadConst, mark}
 use Rattle.rules.specs.Run.{exec}
 use Rattle.tables.specs.Record.{words}
 use borrow.Author.Rules.{rules}
@@ -27,9 +28,10 @@ unfolding does doing exec
 returns c =
     let c2 = c.before.before in
     let c4 = c2.before.before in
-    let c8 = c4.before.before.before.before in
-    λ notes consts. record {
-      sim = λ z m o₀ A h. cut_off c8.args.frame.now c8.args.r (words c8.args.recs.now c8.args.r) Continue (sym c4.continue-label.ensures ∙ c2.enum_told.given.1) c.cut.ensures h;
+    let c9 = c4.before.before.before.before.before in
+    λ notes. record {
+      sim = λ z m o₀ A h. cut_off c9.args.frame.now c9.args.r (words c9.args.recs.now c9.args.r) Continue (mark c9.args.r (Load
+          LoadConst Null)) (sym c4.continue-label.ensures ∙ c2.enum_told.given.1) c.cut.ensures h;
     }
 
 push-continue-requires : tie.Need-push-continue-requires
@@ -41,18 +43,21 @@ push_null_requires c κs = search rules
 same_length : tie.Need-same-length
 same_length c = search rules
 
+same_length_2 : tie.Need-same-length-2
+same_length_2 c = search rules
+
 returns_2 : tie.Need-returns-2
 unfolding does doing exec
 returns_2 c =
-    let c2 = c.before.before in
-    let c7 = c2.before.before.before.before.before in
-    let c11 = c7.before.before.before.before in
-    let c13 = c11.before.before in
-    let c17 = c13.before.before.before.before in
-    λ notes consts. record {
+    let c4 = c.before.before.before.before in
+    let c10 = c4.before.before.before.before.before.before in
+    let c14 = c10.before.before.before.before in
+    let c16 = c14.before.before in
+    let c21 = c16.before.before.before.before.before in
+    λ notes. record {
       sim = λ z m o₀ A h.
-          let h1 = left_some c17.args.r (words c17.args.recs.now c17.args.r) Continue c13.continue-label.ensures c11.label.given.1 refl c7.push-continue.ensures h in
-          nulled c17.args.r c2.push-null.ensures h1;
+          let h1 = left_some c21.args.r (words c21.args.recs.now c21.args.r) Continue c16.continue-label.ensures c14.label.given.1 refl c10.push-continue.ensures h in
+          nulled c21.args.r c4.push-null.ensures h1;
     }
 
 pub continue-loop-spec : {M : Type 1} → statement M
@@ -67,4 +72,5 @@ continue-loop-spec =
     push-continue-requires
     push_null_requires
     same_length
+    same_length_2
     returns_2)

@@ -25,20 +25,23 @@ push_null_requires c κs = search rules
 same_length : tie.Need-same-length
 same_length c = search rules
 
+same_length_2 : tie.Need-same-length-2
+same_length_2 c = search rules
+
 returns : tie.Need-returns
 unfolding does doing exec
 returns c =
-    let c2 = c.before.before in
-    let c7 = c2.before.before.before.before.before in
-    let c12 = c7.before.before.before.before.before in
-    let c13 = c12.before in
-    let c17 = c13.before.before.before.before in
-    let c20 = c17.before.before.before in
+    let c4 = c.before.before.before.before in
+    let c10 = c4.before.before.before.before.before.before in
+    let c17 = c10.before.before.before.before.before.before.before in
+    let c18 = c17.before in
+    let c22 = c18.before.before.before.before in
+    let c26 = c22.before.before.before.before in
     λ k. record {
       sim = λ z m o₀ A h.
-          let h1 = effect_loaded (lent c20.args.recs.now c20.args.notes.now) c20.args.r z {k = 5} k c13.capped.ensures c12.push-load-const.ensures h in
-          let h2 = used_child (lent c20.args.recs.now c20.args.notes.now) c20.args.r Set 0 c17.first.ensures c7.store.ensures h1 in
-          nulled c20.args.r c2.push-null.ensures h2;
+          let h1 = effect_loaded (lent c26.args.recs.now c26.args.notes.now) c26.args.r z {k = 5} k c18.capped.ensures c17.push-load-const.ensures h in
+          let h2 = used_child (lent c26.args.recs.now c26.args.notes.now) c26.args.r Set 0 c22.first.ensures c10.store.ensures h1 in
+          nulled c26.args.r c4.push-null.ensures h2;
     }
 
 pub effect-spec : {M : Type 1} → statement M
@@ -51,4 +54,5 @@ effect-spec =
     store_requires
     push_null_requires
     same_length
+    same_length_2
     returns)

@@ -21,8 +21,8 @@ first-child-requires c κs = search rules
 load_requires : tie.Need-load-requires
 load_requires c κs = search rules
 
-push_register_handler_requires : tie.Need-push-register-handler-requires
-push_register_handler_requires c κs = search rules
+push-register-handler-requires : tie.Need-push-register-handler-requires
+push-register-handler-requires c κs = search rules
 
 same_length : tie.Need-same-length
 same_length c = search rules
@@ -52,6 +52,6 @@ register-spec =
     get_label_requires
     first-child-requires
     load_requires
-    push_register_handler_requires
+    push-register-handler-requires
     same_length
     returns)

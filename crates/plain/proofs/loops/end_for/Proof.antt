@@ -28,21 +28,24 @@ end_loop_requires c κs = search rules
 same_length : tie.Need-same-length
 same_length c = search rules
 
+same_length_2 : tie.Need-same-length-2
+same_length_2 c = search rules
+
 returns : tie.Need-returns
 returns c =
-    let c4 = c.before.before.before.before in
-    let c9 = c4.before.before.before.before.before in
-    let c14 = c9.before.before.before.before.before in
-    let c19 = c14.before.before.before.before.before in
-    let c24 = c19.before.before.before.before.before in
-    λ recs consts. record {
+    let c6 = c.before.before.before.before.before.before in
+    let c12 = c6.before.before.before.before.before.before in
+    let c17 = c12.before.before.before.before.before in
+    let c22 = c17.before.before.before.before.before in
+    let c27 = c22.before.before.before.before.before in
+    record {
       moves = λ r a b x y. record {
         moves = λ m o₀ A h.
-            let h1 = said r Pop 0 refl refl c24.push-pop.ensures h in
-            let h2 = backed r a refl x c19.push-jump-back-edge.ensures h1 in
-            let h3 = placed r b refl y c14.push-label.ensures h2 in
-            let h4 = said r Pop 0 refl refl c9.push-pop2.ensures h3 in
-            let h5 = nulled r c4.push-null.ensures h4 in
+            let h1 = said r Pop 0 refl refl c27.push-pop.ensures h in
+            let h2 = backed r a refl x c22.push-jump-back-edge.ensures h1 in
+            let h3 = placed r b refl y c17.push-label.ensures h2 in
+            let h4 = said r Pop 0 refl refl c12.push-pop2.ensures h3 in
+            let h5 = nulled r c6.push-null.ensures h4 in
             finished c.end_loop.ensures h5;
       };
     }
@@ -58,4 +61,5 @@ end-for-spec =
     push_null_requires
     end_loop_requires
     same_length
+    same_length_2
     returns)

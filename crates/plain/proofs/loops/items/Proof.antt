@@ -8,23 +8,17 @@ use Rattle.plain.proofs.loops.items.Statement.{statement}
 use Rattle.plain.proofs.loops.items.Tie as tie
 
 abbrev invariant-loop : tie.invariant-loop
-invariant-loop recs notes code₀ consts₀ frame₀ r n at₀ i₀ code consts frame at i =
-    Giving (lent recs notes) r n at₀ (outs code₀ consts₀) frame₀ (outs code consts) frame i at
+invariant-loop recs notes code₀ consts₀ frame₀ left n at₀ i₀ code consts frame at i =
+    Giving (lent recs notes) n left (outs code₀ consts₀) frame₀ (outs code consts) frame i at
 
 abbrev decreases-loop : tie.decreases-loop
-decreases-loop recs notes code₀ consts₀ frame₀ r n at₀ i₀ code consts frame at i =
+decreases-loop recs notes code₀ consts₀ frame₀ left n at₀ i₀ code consts frame at i =
     n - i
-
-p_requires : tie.Need-p-requires invariant-loop decreases-loop
-p_requires c κs = search rules
-
-first_requires : tie.Need-first-requires invariant-loop decreases-loop
-first_requires c κs = search rules
 
 loop_holds : tie.Need-loop-init invariant-loop decreases-loop
 loop_holds c =
-    let c4 = c.before.before.before.before in
-    giving_start (lent c4.args.recs.now c4.args.notes.now) _ _ _ _ _
+    let c3 = c.before.before.before in
+    giving_start (lent c3.args.recs.now c3.args.notes.now) _ _ _ _
 
 push-item-requires : tie.Need-push-item-requires invariant-loop decreases-loop
 push-item-requires c κs = search rules
@@ -45,24 +39,27 @@ loop_less c =
 loop_again : tie.Need-loop-preserved invariant-loop decreases-loop
 loop_again c =
     let c3 = c.before.before.before in
-    let c8 = c3.before.before.before.before.before in
-    let c12 = c8.before.before.before.before in
-    let c13 = c12.before in
-    let c18 = c13.before.before.before.before.before in
-    giving_again (lent c18.args.recs.now c18.args.notes.now) c13.loop.invariant c12.loop-test.true c.next.ensures (item_puts (lent c18.args.recs.now c18.args.notes.now) c18.args.r _ c8.push-item.ensures c3.store.ensures) (c3.store.auto.1.0 ∙ c8.push-item.auto.1.0)
+    let c10 = c3.before.before.before.before.before.before.before in
+    let c14 = c10.before.before.before.before in
+    let c15 = c14.before in
+    let c19 = c15.before.before.before.before in
+    giving_again (lent c19.args.recs.now c19.args.notes.now) c15.loop.invariant c14.loop-test.true c.next.ensures (λ r. item_puts (lent c19.args.recs.now c19.args.notes.now) r _ c10.push-item.ensures c3.store.ensures) (c3.store.auto.1.0 ∙ c10.push-item.auto.1.0) c10.push-item.auto.1.1.0
 
 same_length : tie.Need-same-length invariant-loop decreases-loop
 same_length c =
     let c1 = c.before in
-    c1.loop.invariant.size
+    c1.loop.invariant.size.0
+
+same_length_2 : tie.Need-same-length-2 invariant-loop decreases-loop
+same_length_2 c =
+    let c1 = c.before in
+    c1.loop.invariant.size.1
 
 returns : tie.Need-returns invariant-loop decreases-loop
 returns c =
     let c1 = c.before in
-    let c2 = c1.before in
-    let c3 = c2.before in
-    let c6 = c3.before.before.before in
-    giving_end (lent c6.args.recs.now c6.args.notes.now) _ _ c1.loop.invariant c.loop-test.false c3.p.ensures c2.first.ensures
+    let c5 = c1.before.before.before.before in
+    giving_end (lent c5.args.recs.now c5.args.notes.now) c1.loop.invariant c.loop-test.false
 
 pub items-spec : {M : Type 1} → statement M
 items-spec =
@@ -70,8 +67,6 @@ items-spec =
     (tie.spec
     invariant-loop
     decreases-loop
-    p_requires
-    first_requires
     loop_holds
     push-item-requires
     store_requires
@@ -80,4 +75,5 @@ items-spec =
     loop_less
     loop_again
     same_length
+    same_length_2
     returns)

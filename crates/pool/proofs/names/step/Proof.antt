@@ -26,7 +26,7 @@ returns c =
     let c6 = c4.before.before in
     let c7 = c6.before in
     let c10 = c7.before.before.before in
-    step_kept c10.args.entries.now _ c10.args.n c10.args.table c10.args.symbol ((class_in c10.args.symbols.now c10.args.scope.now) c10.args.symbol) _ _ c7.classify.ensures c6.slot_of.ensures c4.if1.true c2.put3.ensures
+    step_kept c10.args.entries.now _ c10.args.n c10.args.table c10.args.symbol ((class_in c10.args.symbols.now c10.args.scope.now) c10.args.symbol) _ _ c7.classify.ensures c6.slot_of.ensures c4.if1.true c2.put3.ensures.1
 
 returns_2 : tie.Need-returns-2
 returns_2 c =

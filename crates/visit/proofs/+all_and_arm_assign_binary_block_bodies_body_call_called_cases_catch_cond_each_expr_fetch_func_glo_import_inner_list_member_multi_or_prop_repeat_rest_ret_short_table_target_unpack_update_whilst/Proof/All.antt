@@ -28,26 +28,31 @@ abbrev μ-loop : lts.decreases-loop
 module _ (t : ℕ) where
   loop_holds : lts.Need-loop-init (calls t) (all_at t) all.Post Inv-loop μ-loop
   loop_holds c =
-      let c2 = c.before.before in
-      all_start (lent c2.args.recs.now c2.args.notes.now) c2.args.item c2.args.n _ _ _
+      let c3 = c.before.before.before in
+      all_start (lent c3.args.recs.now c3.args.notes.now) c3.args.item c3.args.n _ _ _
 
   same_length : lts.Need-same-length (calls t) (all_at t) all.Post Inv-loop μ-loop
   same_length c =
       let c2 = c.before.before in
-      c2.loop.invariant.long
+      c2.loop.invariant.sizes.0
+
+  same_length_2 : lts.Need-same-length-2 (calls t) (all_at t) all.Post Inv-loop μ-loop
+  same_length_2 c =
+      let c2 = c.before.before in
+      c2.loop.invariant.sizes.1
 
   returns : lts.Need-returns (calls t) (all_at t) all.Post Inv-loop μ-loop
   returns c =
       let c2 = c.before.before in
-      let c5 = c2.before.before.before in
-      all_none (lent c5.args.recs.now c5.args.notes.now) c5.args.item c5.args.n c2.loop.invariant c.if1.true
+      let c6 = c2.before.before.before.before in
+      all_none (lent c6.args.recs.now c6.args.notes.now) c6.args.item c6.args.n c2.loop.invariant c.if1.true
 
   expr_requires : lts.Need-expr-requires (calls t) (all_at t) all.Post Inv-loop μ-loop
   expr_requires c κs =
       let c3 = c.before.before.before in
       let c5 = c3.before.before in
-      let c8 = c5.before.before.before in (
-        falls_along (size c8.args.recs.now) c8.args.item _ 12 13 t c8.requires.0 (lit< tt) c5.loop.invariant.along c3.if1.false (λ e. c3.if1.false
+      let c9 = c5.before.before.before.before in (
+        falls_along (size c9.args.recs.now) c9.args.item _ 12 13 t c9.requires.0 (lit< tt) c5.loop.invariant.along c3.if1.false (λ e. c3.if1.false
             (c5.loop.invariant.none e)),
         tt,
       )
@@ -58,35 +63,40 @@ module _ (t : ℕ) where
 
   sub_left : lts.Need-overflow-sub-left (calls t) (all_at t) all.Post Inv-loop μ-loop
   sub_left c =
-      let c8 = c.before.before.before.before.before.before.before.before in
-      let g = c8.loop-test.true in search rules
+      let c10 = c.before.before.before.before.before.before.before.before.before.before in
+      let g = c10.loop-test.true in search rules
 
   loop_less : lts.Need-loop-smaller (calls t) (all_at t) all.Post Inv-loop μ-loop
   loop_less c =
-      let c8 = c.before.before.before.before.before.before.before.before in
-      omega (arith, c8.loop-test.true)
+      let c10 = c.before.before.before.before.before.before.before.before.before.before in
+      omega (arith, c10.loop-test.true)
 
   loop_again : lts.Need-loop-preserved (calls t) (all_at t) all.Post Inv-loop μ-loop
   loop_again c =
-      let c3 = c.before.before.before in
-      let c7 = c3.before.before.before.before in
-      let c8 = c7.before in
-      let c9 = c8.before in
-      let c12 = c9.before.before.before in
-      all_again (lent c12.args.recs.now c12.args.notes.now) c12.args.item c12.args.n c9.loop.invariant c8.loop-test.true c7.if1.false
-      c.next.ensures refl c3.expr.ensures c3.expr.auto.1.1.0
+      let c5 = c.before.before.before.before.before in
+      let c9 = c5.before.before.before.before in
+      let c10 = c9.before in
+      let c11 = c10.before in
+      let c15 = c11.before.before.before.before in
+      all_again (lent c15.args.recs.now c15.args.notes.now) c15.args.item c15.args.n c11.loop.invariant c10.loop-test.true c9.if1.false
+      c.next.ensures refl c5.expr.ensures c5.expr.auto.1.1.0 c5.expr.auto.1.1.1.0
 
-  same_length_2 : lts.Need-same-length-2 (calls t) (all_at t) all.Post Inv-loop μ-loop
-  same_length_2 c =
+  same_length_3 : lts.Need-same-length-3 (calls t) (all_at t) all.Post Inv-loop μ-loop
+  same_length_3 c =
       let c1 = c.before in
-      c1.loop.invariant.long
+      c1.loop.invariant.sizes.0
+
+  same_length_4 : lts.Need-same-length-4 (calls t) (all_at t) all.Post Inv-loop μ-loop
+  same_length_4 c =
+      let c1 = c.before in
+      c1.loop.invariant.sizes.1
 
   returns_2 : lts.Need-returns-2 (calls t) (all_at t) all.Post Inv-loop μ-loop
   returns_2 c =
       let c1 = c.before in
-      let c4 = c1.before.before.before in
-      all_end (lent c4.args.recs.now c4.args.notes.now) c4.args.item c4.args.n c1.loop.invariant c.loop-test.false
+      let c5 = c1.before.before.before.before in
+      all_end (lent c5.args.recs.now c5.args.notes.now) c5.args.item c5.args.n c1.loop.invariant c.loop-test.false
 
   pub closed : {M : Type 1} → lts.Closed (calls t) (all_at t) all.Post M
-  closed = lts.spec (calls t) (all_at t) all.Post Inv-loop μ-loop loop_holds same_length returns expr_requires next_requires sub_left loop_less loop_again
-      same_length_2 returns_2
+  closed = lts.spec (calls t) (all_at t) all.Post Inv-loop μ-loop loop_holds same_length same_length_2 returns expr_requires next_requires sub_left loop_less
+      loop_again same_length_3 same_length_4 returns_2

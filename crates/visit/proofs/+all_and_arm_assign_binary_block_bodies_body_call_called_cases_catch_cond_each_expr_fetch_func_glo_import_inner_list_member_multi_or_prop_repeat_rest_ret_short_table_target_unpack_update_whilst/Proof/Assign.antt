@@ -46,16 +46,16 @@ module _ (t : ℕ) where
   expr_requires c κs =
       let c3 = c.before.before.before in
       let c4 = c3.before in
-      let c7 = c4.before.before.before in (
-        falls_to (size c7.args.recs.now) c7.args.r _ 12 7 t c7.requires.0 (lit< tt) (child2 c7.args.recs.now c3.next.ensures (child1 c7.args.recs.now c4.first.ensures)),
+      let c8 = c4.before.before.before.before in (
+        falls_to (size c8.args.recs.now) c8.args.r _ 12 7 t c8.requires.0 (lit< tt) (child2 c8.args.recs.now c3.next.ensures (child1 c8.args.recs.now c4.first.ensures)),
         tt,
       )
 
   target_requires : lts.Need-target-requires (calls t) (assign_at t) assign.Post
   target_requires c κs =
-      let c10 = c.before.before.before.before.before.before.before.before.before.before in
-      let c13 = c10.before.before.before in
-      (falls_to (size c13.args.recs.now) c13.args.r _ 8 7 t c13.requires.0 (lit< tt) (child1 c13.args.recs.now c10.first.ensures), tt)
+      let c12 = c.before.before.before.before.before.before.before.before.before.before.before.before in
+      let c16 = c12.before.before.before.before in
+      (falls_to (size c16.args.recs.now) c16.args.r _ 8 7 t c16.requires.0 (lit< tt) (child1 c16.args.recs.now c12.first.ensures), tt)
 
   push_null_requires : lts.Need-push-null-requires (calls t) (assign_at t) assign.Post
   push_null_requires c κs =
@@ -63,26 +63,34 @@ module _ (t : ℕ) where
 
   same_length : lts.Need-same-length (calls t) (assign_at t) assign.Post
   same_length c =
-      let c2 = c.before.before in
-      let c7 = c2.before.before.before.before.before in
-      let c13 = c7.before.before.before.before.before.before in
-      c2.push-null.auto.0 ∙ c7.target.auto.1.1.0 ∙ c13.expr.auto.1.1.0
+      let c4 = c.before.before.before.before in
+      let c12 = c4.before.before.before.before.before.before.before.before in
+      let c20 = c12.before.before.before.before.before.before.before.before in
+      c4.push-null.auto.1.0 ∙ c12.target.auto.1.1.0 ∙ c20.expr.auto.1.1.0
+
+  same_length_2 : lts.Need-same-length-2 (calls t) (assign_at t) assign.Post
+  same_length_2 c =
+      let c4 = c.before.before.before.before in
+      let c12 = c4.before.before.before.before.before.before.before.before in
+      let c20 = c12.before.before.before.before.before.before.before.before in
+      c4.push-null.auto.1.1.0 ∙ c12.target.auto.1.1.1.0 ∙ c20.expr.auto.1.1.1.0
 
   returns : lts.Need-returns (calls t) (assign_at t) assign.Post
   unfolding does doing exec
   returns c =
-      let c2 = c.before.before in
-      let c7 = c2.before.before.before.before.before in
-      let c13 = c7.before.before.before.before.before.before in
-      let c17 = c13.before.before.before.before in
-      let c18 = c17.before in
-      let c21 = c18.before.before.before in
+      let c4 = c.before.before.before.before in
+      let c12 = c4.before.before.before.before.before.before.before.before in
+      let c20 = c12.before.before.before.before.before.before.before.before in
+      let c24 = c20.before.before.before.before in
+      let c25 = c24.before in
+      let c29 = c25.before.before.before.before in
       record {
         sim = λ z v o₀ A h.
-            let h1 = visited z Expr (next_of c21.args.recs.now c17.next.ensures c18.first.ensures) c13.expr.ensures h in
-            let h2 = visited z Target c18.first.ensures c7.target.ensures h1 in
-            nulled c21.args.r c2.push-null.ensures h2;
+            let h1 = visited z Expr (next_of c29.args.recs.now c24.next.ensures c25.first.ensures) c20.expr.ensures h in
+            let h2 = visited z Target c25.first.ensures c12.target.ensures h1 in
+            nulled c29.args.r c4.push-null.ensures h2;
       }
 
   pub closed : {M : Type 1} → lts.Closed (calls t) (assign_at t) assign.Post M
-  closed = lts.spec (calls t) (assign_at t) assign.Post first_requires next_requires expr_requires target_requires push_null_requires same_length returns
+  closed = lts.spec (calls t) (assign_at t) assign.Post first_requires next_requires expr_requires target_requires push_null_requires same_length same_length_2
+      returns

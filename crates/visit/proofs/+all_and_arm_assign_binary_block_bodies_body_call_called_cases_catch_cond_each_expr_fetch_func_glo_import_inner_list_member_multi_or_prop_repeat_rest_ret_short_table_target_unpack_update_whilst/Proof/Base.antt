@@ -244,14 +244,14 @@ import_at t = and 5 import-kinds.ps (is 5 import-kinds.ps μ-import t) import.Pr
 abbrev pub import_below : ℕ → In 5 import-kinds.ps
 import_below t = and 5 import-kinds.ps (falls 5 import-kinds.ps ◌<◌ μ-import t) import.Pre
 
-abbrev pub μ-inner : Measures 4 inner-kinds.ps ℕ
-μ-inner κs a = level (size a.0.now) a.1.1.1.1.0 6
+abbrev pub μ-inner : Measures 5 inner-kinds.ps ℕ
+μ-inner κs a = level (size a.0.now) a.1.1.1.1.1.0 6
 
-abbrev pub inner_at : ℕ → In 4 inner-kinds.ps
-inner_at t = and 4 inner-kinds.ps (is 4 inner-kinds.ps μ-inner t) inner.Pre
+abbrev pub inner_at : ℕ → In 5 inner-kinds.ps
+inner_at t = and 5 inner-kinds.ps (is 5 inner-kinds.ps μ-inner t) inner.Pre
 
-abbrev pub inner_below : ℕ → In 4 inner-kinds.ps
-inner_below t = and 4 inner-kinds.ps (falls 4 inner-kinds.ps ◌<◌ μ-inner t) inner.Pre
+abbrev pub inner_below : ℕ → In 5 inner-kinds.ps
+inner_below t = and 5 inner-kinds.ps (falls 5 inner-kinds.ps ◌<◌ μ-inner t) inner.Pre
 
 abbrev pub μ-list : Measures 5 list-kinds.ps ℕ
 μ-list κs a = level (size a.0.now) a.1.1.1.1.1.0 8

@@ -54,8 +54,8 @@ module _ (t : ℕ) where
 
   and_requires : lts.Need-and-requires (calls t) (binary_at t) binary.Post
   and_requires c κs =
-      let c8 = c.before.before.before.before.before.before.before.before in
-      (falls_rank2 (size c8.args.recs.now) c8.args.r 6 8 t c8.requires.0 (lit< tt), tt)
+      let c9 = c.before.before.before.before.before.before.before.before.before in
+      (falls_rank2 (size c9.args.recs.now) c9.args.r 6 8 t c9.requires.0 (lit< tt), tt)
 
   enum_told_2 : lts.Need-enum-told-2 (calls t) (binary_at t) binary.Post
   enum_told_2 c =
@@ -63,8 +63,8 @@ module _ (t : ℕ) where
 
   or_requires : lts.Need-or-requires (calls t) (binary_at t) binary.Post
   or_requires c κs =
-      let c8 = c.before.before.before.before.before.before.before.before in
-      (falls_rank2 (size c8.args.recs.now) c8.args.r 6 8 t c8.requires.0 (lit< tt), tt)
+      let c9 = c.before.before.before.before.before.before.before.before.before in
+      (falls_rank2 (size c9.args.recs.now) c9.args.r 6 8 t c9.requires.0 (lit< tt), tt)
 
   first_requires : lts.Need-first-requires (calls t) (binary_at t) binary.Post
   first_requires c κs =
@@ -77,15 +77,15 @@ module _ (t : ℕ) where
   expr_requires : lts.Need-expr-requires (calls t) (binary_at t) binary.Post
   expr_requires c κs =
       let c4 = c.before.before.before.before in
-      let c9 = c4.before.before.before.before.before in
-      (falls_to (size c9.args.recs.now) c9.args.r _ 12 7 t c9.requires.0 (lit< tt) (child1 c9.args.recs.now c4.first.ensures), tt)
+      let c10 = c4.before.before.before.before.before.before in
+      (falls_to (size c10.args.recs.now) c10.args.r _ 12 7 t c10.requires.0 (lit< tt) (child1 c10.args.recs.now c4.first.ensures), tt)
 
   expr_requires_2 : lts.Need-expr-requires-2 (calls t) (binary_at t) binary.Post
   expr_requires_2 c κs =
-      let c9 = c.before.before.before.before.before.before.before.before.before in
-      let c10 = c9.before in
-      let c15 = c10.before.before.before.before.before in (
-        falls_to (size c15.args.recs.now) c15.args.r _ 12 7 t c15.requires.0 (lit< tt) (child2 c15.args.recs.now c9.next.ensures (child1 c15.args.recs.now c10.first.ensures)),
+      let c11 = c.before.before.before.before.before.before.before.before.before.before.before in
+      let c12 = c11.before in
+      let c18 = c12.before.before.before.before.before.before in (
+        falls_to (size c18.args.recs.now) c18.args.r _ 12 7 t c18.requires.0 (lit< tt) (child2 c18.args.recs.now c11.next.ensures (child1 c18.args.recs.now c12.first.ensures)),
         tt,
       )
 
@@ -95,59 +95,76 @@ module _ (t : ℕ) where
 
   same_length : lts.Need-same-length (calls t) (binary_at t) binary.Post
   same_length c =
-      let c2 = c.before.before in
-      c2.and.auto.1.1.0
-
-  returns : lts.Need-returns (calls t) (binary_at t) binary.Post
-  returns c =
-      let c2 = c.before.before in
-      let c6 = c2.before.before.before.before in
-      let c8 = c6.before.before in
-      let c11 = c8.before.before.before in
-      resim (λ v z A. either_yes (lent c11.args.recs.now c11.args.notes.now) v c11.args.r _ _ _ A (sym (is_and (word c11.args.recs.now c11.args.r 1) c8.binary-operator.ensures) ∙ ap (λ (o : BinOp). eqb (bin_number o) 5) c6.enum_told.given.1))
-      c2.and.ensures
+      let c4 = c.before.before.before.before in
+      c4.and.auto.1.1.0
 
   same_length_2 : lts.Need-same-length-2 (calls t) (binary_at t) binary.Post
   same_length_2 c =
-      let c2 = c.before.before in
-      c2.or.auto.1.1.0
+      let c4 = c.before.before.before.before in
+      c4.and.auto.1.1.1.0
 
-  returns_2 : lts.Need-returns-2 (calls t) (binary_at t) binary.Post
-  returns_2 c =
-      let c2 = c.before.before in
-      let c6 = c2.before.before.before.before in
-      let c8 = c6.before.before in
-      let c11 = c8.before.before.before in
-      resim (λ v z A. either_no (lent c11.args.recs.now c11.args.notes.now) v c11.args.r _ _ _ A (sym (is_and (word c11.args.recs.now c11.args.r 1) c8.binary-operator.ensures) ∙ ap (λ (o : BinOp). eqb (bin_number o) 5) c6.enum-told2.given.1))
-      (resim (λ v z A. either_yes (lent c11.args.recs.now c11.args.notes.now) v c11.args.r _ _ _ A (sym (is_or (word c11.args.recs.now c11.args.r 1) c8.binary-operator.ensures) ∙ ap (λ (o : BinOp). eqb (bin_number o) 6) c6.enum-told2.given.1))
-      c2.or.ensures)
+  returns : lts.Need-returns (calls t) (binary_at t) binary.Post
+  returns c =
+      let c4 = c.before.before.before.before in
+      let c8 = c4.before.before.before.before in
+      let c10 = c8.before.before in
+      let c14 = c10.before.before.before.before in
+      resim (λ v z A. either_yes (lent c14.args.recs.now c14.args.notes.now) v c14.args.r _ _ _ A (sym (is_and (word c14.args.recs.now c14.args.r 1) c10.binary-operator.ensures) ∙ ap (λ (o : BinOp). eqb (bin_number o) 5) c8.enum_told.given.1))
+      c4.and.ensures
 
   same_length_3 : lts.Need-same-length-3 (calls t) (binary_at t) binary.Post
   same_length_3 c =
+      let c4 = c.before.before.before.before in
+      c4.or.auto.1.1.0
+
+  same_length_4 : lts.Need-same-length-4 (calls t) (binary_at t) binary.Post
+  same_length_4 c =
+      let c4 = c.before.before.before.before in
+      c4.or.auto.1.1.1.0
+
+  returns_2 : lts.Need-returns-2 (calls t) (binary_at t) binary.Post
+  returns_2 c =
+      let c4 = c.before.before.before.before in
+      let c8 = c4.before.before.before.before in
+      let c10 = c8.before.before in
+      let c14 = c10.before.before.before.before in
+      resim (λ v z A. either_no (lent c14.args.recs.now c14.args.notes.now) v c14.args.r _ _ _ A (sym (is_and (word c14.args.recs.now c14.args.r 1) c10.binary-operator.ensures) ∙ ap (λ (o : BinOp). eqb (bin_number o) 5) c8.enum-told2.given.1))
+      (resim (λ v z A. either_yes (lent c14.args.recs.now c14.args.notes.now) v c14.args.r _ _ _ A (sym (is_or (word c14.args.recs.now c14.args.r 1) c10.binary-operator.ensures) ∙ ap (λ (o : BinOp). eqb (bin_number o) 6) c8.enum-told2.given.1))
+      c4.or.ensures)
+
+  same_length_5 : lts.Need-same-length-5 (calls t) (binary_at t) binary.Post
+  same_length_5 c =
       let c2 = c.before.before in
-      let c7 = c2.before.before.before.before.before in
-      let c13 = c7.before.before.before.before.before.before in
-      c2.push-binary.auto.0 ∙ c7.expr2.auto.1.1.0 ∙ c13.expr.auto.1.1.0
+      let c9 = c2.before.before.before.before.before.before.before in
+      let c17 = c9.before.before.before.before.before.before.before.before in
+      c2.push-binary.auto.0 ∙ c9.expr2.auto.1.1.0 ∙ c17.expr.auto.1.1.0
+
+  same_length_6 : lts.Need-same-length-6 (calls t) (binary_at t) binary.Post
+  same_length_6 c =
+      let c9 = c.before.before.before.before.before.before.before.before.before in
+      let c17 = c9.before.before.before.before.before.before.before.before in
+      c9.expr2.auto.1.1.1.0 ∙ c17.expr.auto.1.1.1.0
 
   returns_3 : lts.Need-returns-3 (calls t) (binary_at t) binary.Post
   returns_3 c =
       let c2 = c.before.before in
-      let c7 = c2.before.before.before.before.before in
-      let c13 = c7.before.before.before.before.before.before in
-      let c17 = c13.before.before.before.before in
-      let c18 = c17.before in
-      let c19 = c18.before in
-      let c20 = c19.before in
-      let c23 = c20.before.before.before in
+      let c9 = c2.before.before.before.before.before.before.before in
+      let c17 = c9.before.before.before.before.before.before.before.before in
+      let c21 = c17.before.before.before.before in
+      let c22 = c21.before in
+      let c23 = c22.before in
+      let c24 = c23.before in
+      let c28 = c24.before.before.before.before in
       record {
         sim = λ z v o₀ A h.
-            let h1 = visited z Expr c18.first.ensures c13.expr.ensures h in
-            let h2 = visited z Expr (next_of c23.args.recs.now c17.next.ensures c18.first.ensures) c7.expr2.ensures h1 in
-            given (binary_run (lent c23.args.recs.now c23.args.notes.now) v c23.args.r (sym (is_and (word c23.args.recs.now c23.args.r 1)
-            c20.binary-operator.ensures) ∙ (not_either c20.binary-operator.result (sym (not_short c20.binary-operator.result c19.match.keys3))).0) (sym (is_or (word c23.args.recs.now c23.args.r 1) c20.binary-operator.ensures) ∙ (not_either c20.binary-operator.result (sym (not_short c20.binary-operator.result c19.match.keys3))).1) A) (operated (word c23.args.recs.now c23.args.r 1)
-            c20.binary-operator.ensures c23.args.r c2.push-binary.ensures h2);
+            let h1 = visited z Expr c22.first.ensures c17.expr.ensures h in
+            let h2 = visited z Expr (next_of c28.args.recs.now c21.next.ensures c22.first.ensures) c9.expr2.ensures h1 in
+            given (binary_run (lent c28.args.recs.now c28.args.notes.now) v c28.args.r (sym (is_and (word c28.args.recs.now c28.args.r 1)
+            c24.binary-operator.ensures) ∙ (not_either c24.binary-operator.result (sym (not_short c24.binary-operator.result c23.match.keys3))).0) (sym (is_or (word c28.args.recs.now c28.args.r 1) c24.binary-operator.ensures) ∙ (not_either c24.binary-operator.result (sym (not_short c24.binary-operator.result c23.match.keys3))).1) A) (operated (word c28.args.recs.now c28.args.r 1)
+            c24.binary-operator.ensures c28.args.r c2.push-binary.ensures h2);
       }
 
   pub closed : {M : Type 1} → lts.Closed (calls t) (binary_at t) binary.Post M
   closed = lts.spec (calls t) (binary_at t) binary.Post binary_operator_requires enum_told and_requires enum_told_2 or_requires first_requires next_requires
-      expr_requires expr_requires_2 push_binary_requires same_length returns same_length_2 returns_2 same_length_3 returns_3
+      expr_requires expr_requires_2 push_binary_requires same_length same_length_2 returns same_length_3 same_length_4 returns_2 same_length_5 same_length_6
+      returns_3

@@ -62,26 +62,31 @@ module _ (t : ℕ) where
 
   same_length : lts.Need-same-length (calls t) (block_at t) block.Post Inv-loop μ-loop
   same_length c =
-      let c2 = c.before.before in
-      c2.push-null.auto.0
+      let c4 = c.before.before.before.before in
+      c4.push-null.auto.1.0
+
+  same_length_2 : lts.Need-same-length-2 (calls t) (block_at t) block.Post Inv-loop μ-loop
+  same_length_2 c =
+      let c4 = c.before.before.before.before in
+      c4.push-null.auto.1.1.0
 
   returns : lts.Need-returns (calls t) (block_at t) block.Post Inv-loop μ-loop
   unfolding does doing exec
   returns c =
-      let c2 = c.before.before in
-      let c5 = c2.before.before.before in
-      let c6 = c5.before in
-      let c9 = c6.before.before.before in
+      let c4 = c.before.before.before.before in
+      let c8 = c4.before.before.before.before in
+      let c9 = c8.before in
+      let c13 = c9.before.before.before.before in
       record {
         sim = λ z v o₀ A h.
-            given (block_none (lent c9.args.recs.now c9.args.notes.now) v c9.args.r (sym c6.first.ensures ∙ c5.if1.true) A) (nulled c9.args.r c2.push-null.ensures h);
+            given (block_none (lent c13.args.recs.now c13.args.notes.now) v c13.args.r (sym c9.first.ensures ∙ c8.if1.true) A) (nulled c13.args.r c4.push-null.ensures h);
       }
 
   loop_holds : lts.Need-loop-init (calls t) (block_at t) block.Post Inv-loop μ-loop
   loop_holds c =
       let c1 = c.before in
-      let c4 = c1.before.before.before in
-      blocking_start (lent c4.args.recs.now c4.args.notes.now) c4.args.r _ _ _ (child1 c4.args.recs.now c1.first.ensures) c.if1.false
+      let c5 = c1.before.before.before.before in
+      blocking_start (lent c5.args.recs.now c5.args.notes.now) c5.args.r _ _ _ (child1 c5.args.recs.now c1.first.ensures) c.if1.false
 
   goes_on_requires : lts.Need-goes-on-requires (calls t) (block_at t) block.Post Inv-loop μ-loop
   goes_on_requires c κs =
@@ -90,8 +95,8 @@ module _ (t : ℕ) where
   expr_requires : lts.Need-expr-requires (calls t) (block_at t) block.Post Inv-loop μ-loop
   expr_requires c κs =
       let c6 = c.before.before.before.before.before.before in
-      let c11 = c6.before.before.before.before.before in
-      (falls_to (size c11.args.recs.now) c11.args.r _ 12 7 t c11.requires.0 (lit< tt) c6.loop.invariant.link, tt)
+      let c12 = c6.before.before.before.before.before.before in
+      (falls_to (size c12.args.recs.now) c12.args.r _ 12 7 t c12.requires.0 (lit< tt) c6.loop.invariant.link, tt)
 
   keep_error_requires : lts.Need-keep-error-requires (calls t) (block_at t) block.Post Inv-loop μ-loop
   keep_error_requires c κs =
@@ -101,26 +106,32 @@ module _ (t : ℕ) where
   next_requires c κs =
       tt
 
-  same_length_2 : lts.Need-same-length-2 (calls t) (block_at t) block.Post Inv-loop μ-loop
-  same_length_2 c =
+  same_length_3 : lts.Need-same-length-3 (calls t) (block_at t) block.Post Inv-loop μ-loop
+  same_length_3 c =
       let c4 = c.before.before.before.before in
-      let c9 = c4.before.before.before.before.before in
-      let c16 = c9.before.before.before.before.before.before.before in
-      c4.keep-error.auto.0 ∙ c9.expr.auto.1.1.0 ∙ c16.loop.invariant.long
+      let c11 = c4.before.before.before.before.before.before.before in
+      let c18 = c11.before.before.before.before.before.before.before in
+      c4.keep-error.auto.0 ∙ c11.expr.auto.1.1.0 ∙ c18.loop.invariant.sizes.0
+
+  same_length_4 : lts.Need-same-length-4 (calls t) (block_at t) block.Post Inv-loop μ-loop
+  same_length_4 c =
+      let c11 = c.before.before.before.before.before.before.before.before.before.before.before in
+      let c18 = c11.before.before.before.before.before.before.before in
+      c11.expr.auto.1.1.1.0 ∙ c18.loop.invariant.sizes.1
 
   returns_2 : lts.Need-returns-2 (calls t) (block_at t) block.Post Inv-loop μ-loop
   returns_2 c =
       let c1 = c.before in
       let c4 = c1.before.before.before in
-      let c9 = c4.before.before.before.before.before in
-      let c13 = c9.before.before.before.before in
-      let c14 = c13.before in
-      let c16 = c14.before.before in
-      let c17 = c16.before in
-      let c18 = c17.before in
-      let c21 = c18.before.before.before in
-      resim (λ v z A. block_left (lent c21.args.recs.now c21.args.notes.now) v c21.args.r c18.first.ensures c17.if1.false A)
-      (blocking_last (lent c21.args.recs.now c21.args.notes.now) c21.args.r c16.loop.invariant (sym c14.goes_on.ensures ∙ c13.if2.true) c9.expr.ensures c4.keep-error.ensures c1.next.ensures c.if3.true)
+      let c11 = c4.before.before.before.before.before.before.before in
+      let c15 = c11.before.before.before.before in
+      let c16 = c15.before in
+      let c18 = c16.before.before in
+      let c19 = c18.before in
+      let c20 = c19.before in
+      let c24 = c20.before.before.before.before in
+      resim (λ v z A. block_left (lent c24.args.recs.now c24.args.notes.now) v c24.args.r c20.first.ensures c19.if1.false A)
+      (blocking_last (lent c24.args.recs.now c24.args.notes.now) c24.args.r c18.loop.invariant (sym c16.goes_on.ensures ∙ c15.if2.true) c11.expr.ensures c4.keep-error.ensures c1.next.ensures c.if3.true)
 
   push_pop_requires : lts.Need-push-pop-requires (calls t) (block_at t) block.Post Inv-loop μ-loop
   push_pop_requires c κs =
@@ -129,9 +140,9 @@ module _ (t : ℕ) where
   loop_less : lts.Need-loop-smaller (calls t) (block_at t) block.Post Inv-loop μ-loop
   loop_less c =
       let c6 = c.before.before.before.before.before.before in
-      let c21 = c6.before.before.before.before.before.before.before.before.before.before.before.before.before.before.before in
-      let c26 = c21.before.before.before.before.before in
-      falls_next c26.args.recs.now _ _ c21.loop.invariant.some c6.next.ensures
+      let c23 = c6.before.before.before.before.before.before.before.before.before.before.before.before.before.before.before.before.before in
+      let c29 = c23.before.before.before.before.before.before in
+      falls_next c29.args.recs.now _ _ c23.loop.invariant.some c6.next.ensures
 
   loop_again : lts.Need-loop-preserved (calls t) (block_at t) block.Post Inv-loop μ-loop
   loop_again c =
@@ -139,22 +150,27 @@ module _ (t : ℕ) where
       let c5 = c2.before.before.before in
       let c6 = c5.before in
       let c9 = c6.before.before.before in
-      let c14 = c9.before.before.before.before.before in
-      let c18 = c14.before.before.before.before in
-      let c19 = c18.before in
-      let c21 = c19.before.before in
-      let c26 = c21.before.before.before.before.before in
-      blocking_again (lent c26.args.recs.now c26.args.notes.now) c26.args.r c21.loop.invariant (sym c19.goes_on.ensures ∙ c18.if2.true) c14.expr.ensures c9.keep-error.ensures c6.next.ensures c5.if3.false
+      let c16 = c9.before.before.before.before.before.before.before in
+      let c20 = c16.before.before.before.before in
+      let c21 = c20.before in
+      let c23 = c21.before.before in
+      let c29 = c23.before.before.before.before.before.before in
+      blocking_again (lent c29.args.recs.now c29.args.notes.now) c29.args.r c23.loop.invariant (sym c21.goes_on.ensures ∙ c20.if2.true) c16.expr.ensures c9.keep-error.ensures c6.next.ensures c5.if3.false
       (record {
         sim = λ z v o₀ A h.
-            said c26.args.r Pop 0 refl refl c2.push-pop.ensures h;
+            said c29.args.r Pop 0 refl refl c2.push-pop.ensures h;
       })
-      (c2.push-pop.auto.0 ∙ c9.keep-error.auto.0 ∙ c14.expr.auto.1.1.0)
+      (c2.push-pop.auto.0 ∙ c9.keep-error.auto.0 ∙ c16.expr.auto.1.1.0) c16.expr.auto.1.1.1.0
 
-  same_length_3 : lts.Need-same-length-3 (calls t) (block_at t) block.Post Inv-loop μ-loop
-  same_length_3 c =
+  same_length_5 : lts.Need-same-length-5 (calls t) (block_at t) block.Post Inv-loop μ-loop
+  same_length_5 c =
       let c3 = c.before.before.before in
-      c3.loop.invariant.long
+      c3.loop.invariant.sizes.0
+
+  same_length_6 : lts.Need-same-length-6 (calls t) (block_at t) block.Post Inv-loop μ-loop
+  same_length_6 c =
+      let c3 = c.before.before.before in
+      c3.loop.invariant.sizes.1
 
   returns_3 : lts.Need-returns-3 (calls t) (block_at t) block.Post Inv-loop μ-loop
   returns_3 c =
@@ -162,10 +178,11 @@ module _ (t : ℕ) where
       let c3 = c1.before.before in
       let c4 = c3.before in
       let c5 = c4.before in
-      let c8 = c5.before.before.before in
-      resim (λ v z A. block_left (lent c8.args.recs.now c8.args.notes.now) v c8.args.r c5.first.ensures c4.if1.false A)
-      (blocking_still (lent c8.args.recs.now c8.args.notes.now) c8.args.r c3.loop.invariant (sym c1.goes_on.ensures ∙ c.if2.false))
+      let c9 = c5.before.before.before.before in
+      resim (λ v z A. block_left (lent c9.args.recs.now c9.args.notes.now) v c9.args.r c5.first.ensures c4.if1.false A)
+      (blocking_still (lent c9.args.recs.now c9.args.notes.now) c9.args.r c3.loop.invariant (sym c1.goes_on.ensures ∙ c.if2.false))
 
   pub closed : {M : Type 1} → lts.Closed (calls t) (block_at t) block.Post M
-  closed = lts.spec (calls t) (block_at t) block.Post Inv-loop μ-loop first_requires push_null_requires same_length returns loop_holds goes_on_requires
-      expr_requires keep_error_requires next_requires same_length_2 returns_2 push_pop_requires loop_less loop_again same_length_3 returns_3
+  closed = lts.spec (calls t) (block_at t) block.Post Inv-loop μ-loop first_requires push_null_requires same_length same_length_2 returns loop_holds
+      goes_on_requires expr_requires keep_error_requires next_requires same_length_3 same_length_4 returns_2 push_pop_requires loop_less loop_again
+      same_length_5 same_length_6 returns_3

@@ -45,8 +45,8 @@ abbrev μ-loop : lts.decreases-loop
 module _ (t : ℕ) where
   loop_holds : lts.Need-loop-init (calls t) (bodies_at t) bodies.Post Inv-loop μ-loop
   loop_holds c =
-      let c2 = c.before.before in
-      bodying_start (lent c2.args.recs.now c2.args.notes.now) c2.args.first _ _ _ _ _
+      let c3 = c.before.before.before in
+      bodying_start (lent c3.args.recs.now c3.args.notes.now) c3.args.first _ _ _ _ _
 
   push_label_requires : lts.Need-push-label-requires (calls t) (bodies_at t) bodies.Post Inv-loop μ-loop
   push_label_requires c κs =
@@ -56,8 +56,8 @@ module _ (t : ℕ) where
   expr_requires c κs =
       let c8 = c.before.before.before.before.before.before.before.before in
       let c9 = c8.before in
-      let c12 = c9.before.before.before in (
-        falls_along (size c12.args.recs.now) c12.args.first _ 12 13 t c12.requires.0 (lit< tt) c9.loop.invariant.along c8.loop-test.true (λ e. c8.loop-test.true (c9.loop.invariant.none e)),
+      let c13 = c9.before.before.before.before in (
+        falls_along (size c13.args.recs.now) c13.args.first _ 12 13 t c13.requires.0 (lit< tt) c9.loop.invariant.along c8.loop-test.true (λ e. c8.loop-test.true (c9.loop.invariant.none e)),
         tt,
       )
 
@@ -76,43 +76,48 @@ module _ (t : ℕ) where
   loop_less : lts.Need-loop-smaller (calls t) (bodies_at t) bodies.Post Inv-loop μ-loop
   loop_less c =
       let c1 = c.before in
-      let c18 = c1.before.before.before.before.before.before.before.before.before.before.before.before.before.before.before.before.before in
-      let c22 = c18.before.before.before.before in
-      falls_next c22.args.recs.now _ _ c18.loop-test.true c1.next.ensures
+      let c20 = c1.before.before.before.before.before.before.before.before.before.before.before.before.before.before.before.before.before.before.before in
+      let c25 = c20.before.before.before.before.before in
+      falls_next c25.args.recs.now _ _ c20.loop-test.taken c1.next.ensures
 
   loop_again : lts.Need-loop-preserved (calls t) (bodies_at t) bodies.Post Inv-loop μ-loop
   loop_again c =
       let c1 = c.before in
       let c4 = c1.before.before.before in
-      let c9 = c4.before.before.before.before.before in
-      let c15 = c9.before.before.before.before.before.before in
-      let c18 = c15.before.before.before in
-      let c19 = c18.before in
-      let c22 = c19.before.before.before in
-      bodying_again (lent c22.args.recs.now c22.args.notes.now) c22.args.first _ _ c19.loop.invariant c18.loop-test.true c1.next.ensures
+      let c11 = c4.before.before.before.before.before.before.before in
+      let c17 = c11.before.before.before.before.before.before in
+      let c20 = c17.before.before.before in
+      let c21 = c20.before in
+      let c25 = c21.before.before.before.before in
+      bodying_again (lent c25.args.recs.now c25.args.notes.now) c25.args.first _ _ c21.loop.invariant c20.loop-test.true c1.next.ensures
       c.next-label.ensures
       (λ r i j q d. record {
         sim = λ z v o₀ A h.
-            let h1 = placed r i refl q c15.push-label.ensures h in
-            let h2 = visited z Expr refl c9.expr.ensures h1 in
+            let h1 = placed r i refl q c17.push-label.ensures h in
+            let h2 = visited z Expr refl c11.expr.ensures h1 in
             jumped r Jump j refl d c4.push-jump.ensures h2;
       })
-      (c4.push-jump.auto.0 ∙ c9.expr.auto.1.1.0 ∙ c15.push-label.auto.0)
+      (c4.push-jump.auto.0 ∙ c11.expr.auto.1.1.0 ∙ c17.push-label.auto.0) c11.expr.auto.1.1.1.0
 
   same_length : lts.Need-same-length (calls t) (bodies_at t) bodies.Post Inv-loop μ-loop
   same_length c =
       let c1 = c.before in
-      c1.loop.invariant.long
+      c1.loop.invariant.sizes.0
+
+  same_length_2 : lts.Need-same-length-2 (calls t) (bodies_at t) bodies.Post Inv-loop μ-loop
+  same_length_2 c =
+      let c1 = c.before in
+      c1.loop.invariant.sizes.1
 
   returns : lts.Need-returns (calls t) (bodies_at t) bodies.Post Inv-loop μ-loop
   returns c =
       let c1 = c.before in
-      let c4 = c1.before.before.before in
+      let c5 = c1.before.before.before.before in
       record {
-        bodies = λ r i j p q. bodying_end (lent c4.args.recs.now c4.args.notes.now) c4.args.first _ _ c1.loop.invariant c.loop-test.false
+        bodies = λ r i j p q. bodying_end (lent c5.args.recs.now c5.args.notes.now) c5.args.first _ _ c1.loop.invariant c.loop-test.false
             r i j p q;
       }
 
   pub closed : {M : Type 1} → lts.Closed (calls t) (bodies_at t) bodies.Post M
   closed = lts.spec (calls t) (bodies_at t) bodies.Post Inv-loop μ-loop loop_holds push_label_requires expr_requires push_jump_requires next_requires
-      next_label_requires loop_less loop_again same_length returns
+      next_label_requires loop_less loop_again same_length same_length_2 returns

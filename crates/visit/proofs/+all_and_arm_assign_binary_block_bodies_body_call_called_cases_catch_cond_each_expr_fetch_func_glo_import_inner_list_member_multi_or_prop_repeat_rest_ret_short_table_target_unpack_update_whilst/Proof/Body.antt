@@ -55,15 +55,15 @@ module _ (t : ℕ) where
   expr_requires : lts.Need-expr-requires (calls t) (body_at t) body.Post
   expr_requires c κs =
       let c4 = c.before.before.before.before in
-      let c7 = c4.before.before.before in
-      (falls_to (size c7.args.recs.now) c7.args.r _ 12 4 t c7.requires.0 (lit< tt) (child1 c7.args.recs.now c4.first.ensures), tt)
+      let c8 = c4.before.before.before.before in
+      (falls_to (size c8.args.recs.now) c8.args.r _ 12 4 t c8.requires.0 (lit< tt) (child1 c8.args.recs.now c4.first.ensures), tt)
 
   expr_requires_2 : lts.Need-expr-requires-2 (calls t) (body_at t) body.Post
   expr_requires_2 c κs =
-      let c9 = c.before.before.before.before.before.before.before.before.before in
-      let c10 = c9.before in
-      let c13 = c10.before.before.before in (
-        falls_to (size c13.args.recs.now) c13.args.r _ 12 4 t c13.requires.0 (lit< tt) (child2 c13.args.recs.now c9.next.ensures (child1 c13.args.recs.now c10.first.ensures)),
+      let c11 = c.before.before.before.before.before.before.before.before.before.before.before in
+      let c12 = c11.before in
+      let c16 = c12.before.before.before.before in (
+        falls_to (size c16.args.recs.now) c16.args.r _ 12 4 t c16.requires.0 (lit< tt) (child2 c16.args.recs.now c11.next.ensures (child1 c16.args.recs.now c12.first.ensures)),
         tt,
       )
 
@@ -88,9 +88,15 @@ module _ (t : ℕ) where
       let c2 = c.before.before in
       let c7 = c2.before.before.before.before.before in
       let c12 = c7.before.before.before.before.before in
-      let c19 = c12.before.before.before.before.before.before.before in
-      let c25 = c19.before.before.before.before.before.before in
-      c2.push-return.auto.0 ∙ c7.push-load-locals.auto.0 ∙ c12.push-pop.auto.0 ∙ c19.expr2.auto.1.1.0 ∙ c25.expr.auto.1.1.0
+      let c21 = c12.before.before.before.before.before.before.before.before.before in
+      let c29 = c21.before.before.before.before.before.before.before.before in
+      c2.push-return.auto.0 ∙ c7.push-load-locals.auto.0 ∙ c12.push-pop.auto.0 ∙ c21.expr2.auto.1.1.0 ∙ c29.expr.auto.1.1.0
+
+  same_length_2 : lts.Need-same-length-2 (calls t) (body_at t) body.Post
+  same_length_2 c =
+      let c21 = c.before.before.before.before.before.before.before.before.before.before.before.before.before.before.before.before.before.before.before.before.before in
+      let c29 = c21.before.before.before.before.before.before.before.before in
+      c21.expr2.kept.1.1.1.0 ∙ c29.expr.kept.1.1.1.0
 
   returns : lts.Need-returns (calls t) (body_at t) body.Post
   unfolding does doing exec
@@ -100,31 +106,37 @@ module _ (t : ℕ) where
       let c12 = c7.before.before.before.before.before in
       let c15 = c12.before.before.before in
       let c16 = c15.before in
-      let c19 = c16.before.before.before in
-      let c25 = c19.before.before.before.before.before.before in
-      let c29 = c25.before.before.before.before in
-      let c30 = c29.before in
-      let c33 = c30.before.before.before in
-      resim (λ v z A. either_yes (lent c33.args.recs.now c33.args.notes.now) v c33.args.r _ _ _ A (eq-eqb _ 2 (sym c16.detail.ensures ∙ c15.if1.true)))
+      let c21 = c16.before.before.before.before.before in
+      let c29 = c21.before.before.before.before.before.before.before.before in
+      let c33 = c29.before.before.before.before in
+      let c34 = c33.before in
+      let c38 = c34.before.before.before.before in
+      resim (λ v z A. either_yes (lent c38.args.recs.now c38.args.notes.now) v c38.args.r _ _ _ A (eq-eqb _ 2 (sym c16.detail.ensures ∙ c15.if1.true)))
       (record {
         sim = λ z v o₀ A h.
-            let h1 = visited z Expr c30.first.ensures c25.expr.ensures h in
-            let h2 = visited z Expr (next_of c33.args.recs.now c29.next.ensures c30.first.ensures) c19.expr2.ensures h1 in
-            let h3 = said c33.args.r Pop 0 refl refl c12.push-pop.ensures h2 in
-            let h4 = said c33.args.r LoadLocals 0 refl refl c7.push-load-locals.ensures h3 in
-            said c33.args.r Return 0 refl refl c2.push-return.ensures h4;
+            let h1 = visited z Expr c34.first.ensures c29.expr.ensures h in
+            let h2 = visited z Expr (next_of c38.args.recs.now c33.next.ensures c34.first.ensures) c21.expr2.ensures h1 in
+            let h3 = said c38.args.r Pop 0 refl refl c12.push-pop.ensures h2 in
+            let h4 = said c38.args.r LoadLocals 0 refl refl c7.push-load-locals.ensures h3 in
+            said c38.args.r Return 0 refl refl c2.push-return.ensures h4;
       })
 
   push_return_requires_2 : lts.Need-push-return-requires-2 (calls t) (body_at t) body.Post
   push_return_requires_2 c κs =
       tt
 
-  same_length_2 : lts.Need-same-length-2 (calls t) (body_at t) body.Post
-  same_length_2 c =
+  same_length_3 : lts.Need-same-length-3 (calls t) (body_at t) body.Post
+  same_length_3 c =
       let c2 = c.before.before in
-      let c9 = c2.before.before.before.before.before.before.before in
-      let c15 = c9.before.before.before.before.before.before in
-      c2.push-return2.auto.0 ∙ c9.expr2.auto.1.1.0 ∙ c15.expr.auto.1.1.0
+      let c11 = c2.before.before.before.before.before.before.before.before.before in
+      let c19 = c11.before.before.before.before.before.before.before.before in
+      c2.push-return2.auto.0 ∙ c11.expr2.auto.1.1.0 ∙ c19.expr.auto.1.1.0
+
+  same_length_4 : lts.Need-same-length-4 (calls t) (body_at t) body.Post
+  same_length_4 c =
+      let c11 = c.before.before.before.before.before.before.before.before.before.before.before in
+      let c19 = c11.before.before.before.before.before.before.before.before in
+      c11.expr2.auto.1.1.1.0 ∙ c19.expr.auto.1.1.1.0
 
   returns_2 : lts.Need-returns-2 (calls t) (body_at t) body.Post
   unfolding does doing exec
@@ -132,19 +144,19 @@ module _ (t : ℕ) where
       let c2 = c.before.before in
       let c5 = c2.before.before.before in
       let c6 = c5.before in
-      let c9 = c6.before.before.before in
-      let c15 = c9.before.before.before.before.before.before in
-      let c19 = c15.before.before.before.before in
-      let c20 = c19.before in
-      let c23 = c20.before.before.before in
-      resim (λ v z A. either_no (lent c23.args.recs.now c23.args.notes.now) v c23.args.r _ _ _ A (ne_eqb _ 2 (λ e. c5.if1.false (c6.detail.ensures ∙ e))))
+      let c11 = c6.before.before.before.before.before in
+      let c19 = c11.before.before.before.before.before.before.before.before in
+      let c23 = c19.before.before.before.before in
+      let c24 = c23.before in
+      let c28 = c24.before.before.before.before in
+      resim (λ v z A. either_no (lent c28.args.recs.now c28.args.notes.now) v c28.args.r _ _ _ A (ne_eqb _ 2 (λ e. c5.if1.false (c6.detail.ensures ∙ e))))
       (record {
         sim = λ z v o₀ A h.
-            let h1 = visited z Expr c20.first.ensures c15.expr.ensures h in
-            let h2 = visited z Expr (next_of c23.args.recs.now c19.next.ensures c20.first.ensures) c9.expr2.ensures h1 in
-            said c23.args.r Return 0 refl refl c2.push-return2.ensures h2;
+            let h1 = visited z Expr c24.first.ensures c19.expr.ensures h in
+            let h2 = visited z Expr (next_of c28.args.recs.now c23.next.ensures c24.first.ensures) c11.expr2.ensures h1 in
+            said c28.args.r Return 0 refl refl c2.push-return2.ensures h2;
       })
 
   pub closed : {M : Type 1} → lts.Closed (calls t) (body_at t) body.Post M
   closed = lts.spec (calls t) (body_at t) body.Post first_requires next_requires expr_requires expr_requires_2 detail_requires push_pop_requires
-      push_load_locals_requires push_return_requires same_length returns push_return_requires_2 same_length_2 returns_2
+      push_load_locals_requires push_return_requires same_length same_length_2 returns push_return_requires_2 same_length_3 same_length_4 returns_2

@@ -91,15 +91,15 @@ module _ (t : ℕ) where
   called_requires : lts.Need-called-requires (calls t) (call_at t) call.Post
   called_requires c κs =
       let c7 = c.before.before.before.before.before.before.before in
-      let c10 = c7.before.before.before in
-      (falls_to (size c10.args.recs.now) c10.args.r _ 13 7 t c10.requires.0 (lit< tt) (child1 c10.args.recs.now c7.first.ensures), tt)
+      let c11 = c7.before.before.before.before in
+      (falls_to (size c11.args.recs.now) c11.args.r _ 13 7 t c11.requires.0 (lit< tt) (child1 c11.args.recs.now c7.first.ensures), tt)
 
   all_requires : lts.Need-all-requires (calls t) (call_at t) call.Post
   all_requires c κs =
-      let c12 = c.before.before.before.before.before.before.before.before.before.before.before.before in
-      let c13 = c12.before in
-      let c16 = c13.before.before.before in (
-        falls_to (size c16.args.recs.now) c16.args.r _ 13 7 t c16.requires.0 (lit< tt) (child2 c16.args.recs.now c12.next.ensures (child1 c16.args.recs.now c13.first.ensures)),
+      let c14 = c.before.before.before.before.before.before.before.before.before.before.before.before.before.before in
+      let c15 = c14.before in
+      let c19 = c15.before.before.before.before in (
+        falls_to (size c19.args.recs.now) c19.args.r _ 13 7 t c19.requires.0 (lit< tt) (child2 c19.args.recs.now c14.next.ensures (child1 c19.args.recs.now c15.first.ensures)),
         tt,
       )
 
@@ -110,30 +110,35 @@ module _ (t : ℕ) where
   same_length : lts.Need-same-length (calls t) (call_at t) call.Post
   same_length c =
       let c2 = c.before.before in
-      let c8 = c2.before.before.before.before.before.before in
-      let c14 = c8.before.before.before.before.before.before in
-      c2.push-calling.auto.0 ∙ c8.all.auto.1.1.0 ∙ c14.called.auto.1.1.0
+      let c10 = c2.before.before.before.before.before.before.before.before in
+      let c18 = c10.before.before.before.before.before.before.before.before in
+      c2.push-calling.auto.0 ∙ c10.all.auto.1.1.0 ∙ c18.called.auto.1.1.0
+
+  same_length_2 : lts.Need-same-length-2 (calls t) (call_at t) call.Post
+  same_length_2 c =
+      let c10 = c.before.before.before.before.before.before.before.before.before.before in
+      let c18 = c10.before.before.before.before.before.before.before.before in
+      c10.all.auto.1.1.1.0 ∙ c18.called.auto.1.1.1.0
 
   returns : lts.Need-returns (calls t) (call_at t) call.Post
   returns c =
       let c2 = c.before.before in
       let c5 = c2.before.before.before in
-      let c8 = c5.before.before.before in
-      let c14 = c8.before.before.before.before.before.before in
-      let c18 = c14.before.before.before.before in
-      let c19 = c18.before in
-      let c20 = c19.before in
-      let c21 = c20.before in
-      let c22 = c21.before in
-      let c25 = c22.before.before.before in
+      let c10 = c5.before.before.before.before.before in
+      let c18 = c10.before.before.before.before.before.before.before.before in
+      let c22 = c18.before.before.before.before in
+      let c23 = c22.before in
+      let c24 = c23.before in
+      let c25 = c24.before in
+      let c26 = c25.before in
+      let c30 = c26.before.before.before.before in
       record {
         sim = λ z v o₀ A h.
-            let h1 = visited z Callee c22.first.ensures c14.called.ensures h in
-            let h2 = through_at z (c20.arguments-len.ensures ∙ ap (λ (x : ℕ). arguments (own_tree (forest c25.args.recs.now x))) (next_of c25.args.recs.now c21.next.ensures c22.first.ensures)) (next_of c25.args.recs.now c21.next.ensures c22.first.ensures) c8.all.ensures
-            h1 in
-            given (call_plain (lent c25.args.recs.now c25.args.notes.now) v c25.args.r (call_of c25.args.tail) (sym (c19.nth.ensures ∙ ap₂
-            (nth c25.args.recs.now) (c20.arguments-len.ensures ∙ ap (λ (x : ℕ). arguments (own_tree (forest c25.args.recs.now x))) (next_of c25.args.recs.now c21.next.ensures c22.first.ensures)) (next_of c25.args.recs.now c21.next.ensures c22.first.ensures)) ∙ c5.if1.true) A) (said c25.args.r (call_of c25.args.tail) _ refl (c18.argument-count.ensures ∙ ap₂ (λ (x y : ℕ). cap (argument_count c25.args.recs.now x y)) c22.first.ensures (c20.arguments-len.ensures ∙ ap (λ (x : ℕ). arguments (own_tree (forest c25.args.recs.now
-            x))) (next_of c25.args.recs.now c21.next.ensures c22.first.ensures))) c2.push-calling.ensures h2);
+            let h1 = visited z Callee c26.first.ensures c18.called.ensures h in
+            let h2 = through_at z (c24.arguments-len.ensures ∙ ap (λ (x : ℕ). arguments (own_tree (forest c30.args.recs.now x))) (next_of c30.args.recs.now c25.next.ensures c26.first.ensures)) (next_of c30.args.recs.now c25.next.ensures c26.first.ensures) c10.all.ensures h1 in
+            given (call_plain (lent c30.args.recs.now c30.args.notes.now) v c30.args.r (call_of c30.args.tail) (sym (c23.nth.ensures ∙ ap₂
+            (nth c30.args.recs.now) (c24.arguments-len.ensures ∙ ap (λ (x : ℕ). arguments (own_tree (forest c30.args.recs.now x))) (next_of c30.args.recs.now c25.next.ensures c26.first.ensures)) (next_of c30.args.recs.now c25.next.ensures c26.first.ensures)) ∙ c5.if1.true) A) (said c30.args.r (call_of c30.args.tail) _ refl (c22.argument-count.ensures ∙ ap₂ (λ (x y : ℕ). cap (argument_count c30.args.recs.now x y)) c26.first.ensures (c24.arguments-len.ensures ∙ ap (λ (x : ℕ). arguments (own_tree (forest c30.args.recs.now
+            x))) (next_of c30.args.recs.now c25.next.ensures c26.first.ensures))) c2.push-calling.ensures h2);
       }
 
   get_label_requires : lts.Need-get-label-requires (calls t) (call_at t) call.Post
@@ -154,13 +159,13 @@ module _ (t : ℕ) where
 
   bodies_requires : lts.Need-bodies-requires (calls t) (call_at t) call.Post
   bodies_requires c κs =
-      let c34 = c.before.before.before.before.before.before.before.before.before.before.before.before.before.before.before.before.before.before.before.before.before.before.before.before.before.before.before.before.before.before.before.before.before.before in
-      let c35 = c34.before in
-      let c36 = c35.before in
-      let c37 = c36.before in
-      let c40 = c37.before.before.before in (
-        falls_to (size c40.args.recs.now) c40.args.r _ 13 7 t c40.pre.0 (lit< tt) (linked_past c40.args.recs.now c35.arguments-len.result
-            (child2 c40.args.recs.now c36.next.ensures (child1 c40.args.recs.now c37.first.ensures)) c34.nth.ensures),
+      let c38 = c.before.before.before.before.before.before.before.before.before.before.before.before.before.before.before.before.before.before.before.before.before.before.before.before.before.before.before.before.before.before.before.before.before.before.before.before.before.before in
+      let c39 = c38.before in
+      let c40 = c39.before in
+      let c41 = c40.before in
+      let c45 = c41.before.before.before.before in (
+        falls_to (size c45.args.recs.now) c45.args.r _ 13 7 t c45.pre.0 (lit< tt) (linked_past c45.args.recs.now c39.arguments-len.result
+            (child2 c45.args.recs.now c40.next.ensures (child1 c45.args.recs.now c41.first.ensures)) c38.nth.ensures),
         tt,
       )
 
@@ -168,50 +173,57 @@ module _ (t : ℕ) where
   push_label_requires c κs =
       tt
 
-  same_length_2 : lts.Need-same-length-2 (calls t) (call_at t) call.Post
-  same_length_2 c =
+  same_length_3 : lts.Need-same-length-3 (calls t) (call_at t) call.Post
+  same_length_3 c =
       let c2 = c.before.before in
-      let c7 = c2.before.before.before.before.before in
-      let c13 = c7.before.before.before.before.before.before in
-      let c18 = c13.before.before.before.before.before in
-      let c23 = c18.before.before.before.before.before in
-      let c31 = c23.before.before.before.before.before.before.before.before in
-      let c37 = c31.before.before.before.before.before.before in
-      c2.push-label.auto.0 ∙ c7.bodies.auto.1.1.0 ∙ c13.push-jump.auto.0 ∙ c18.push-call.auto.0 ∙ c23.registers.auto.1.1.0 ∙ c31.all.auto.1.1.0 ∙ c37.called.auto.1.1.0
+      let c9 = c2.before.before.before.before.before.before.before in
+      let c15 = c9.before.before.before.before.before.before in
+      let c20 = c15.before.before.before.before.before in
+      let c25 = c20.before.before.before.before.before in
+      let c35 = c25.before.before.before.before.before.before.before.before.before.before in
+      let c43 = c35.before.before.before.before.before.before.before.before in
+      c2.push-label.auto.0 ∙ c9.bodies.auto.1.1.0 ∙ c15.push-jump.auto.0 ∙ c20.push-call.auto.0 ∙ c25.registers.auto.1.1.0 ∙ c35.all.auto.1.1.0 ∙ c43.called.auto.1.1.0
+
+  same_length_4 : lts.Need-same-length-4 (calls t) (call_at t) call.Post
+  same_length_4 c =
+      let c9 = c.before.before.before.before.before.before.before.before.before in
+      let c35 = c9.before.before.before.before.before.before.before.before.before.before.before.before.before.before.before.before.before.before.before.before.before.before.before.before.before.before in
+      let c43 = c35.before.before.before.before.before.before.before.before in
+      c9.bodies.auto.1.1.1.0 ∙ c35.all.kept.1.1.1.0 ∙ c43.called.kept.1.1.1.0
 
   returns_2 : lts.Need-returns-2 (calls t) (call_at t) call.Post
   returns_2 c =
       let c2 = c.before.before in
-      let c7 = c2.before.before.before.before.before in
-      let c13 = c7.before.before.before.before.before.before in
-      let c18 = c13.before.before.before.before.before in
-      let c23 = c18.before.before.before.before.before in
-      let c26 = c23.before.before.before in
-      let c28 = c26.before.before in
-      let c31 = c28.before.before.before in
-      let c37 = c31.before.before.before.before.before.before in
-      let c41 = c37.before.before.before.before in
-      let c42 = c41.before in
-      let c43 = c42.before in
-      let c44 = c43.before in
-      let c45 = c44.before in
-      let c48 = c45.before.before.before in
+      let c9 = c2.before.before.before.before.before.before.before in
+      let c15 = c9.before.before.before.before.before.before in
+      let c20 = c15.before.before.before.before.before in
+      let c25 = c20.before.before.before.before.before in
+      let c28 = c25.before.before.before in
+      let c30 = c28.before.before in
+      let c35 = c30.before.before.before.before.before in
+      let c43 = c35.before.before.before.before.before.before.before.before in
+      let c47 = c43.before.before.before.before in
+      let c48 = c47.before in
+      let c49 = c48.before in
+      let c50 = c49.before in
+      let c51 = c50.before in
+      let c55 = c51.before.before.before.before in
       record {
         sim = λ z v o₀ A h.
-            let h1 = visited z Callee c45.first.ensures c37.called.ensures h in
-            let h2 = through_at z (c43.arguments-len.ensures ∙ ap (λ (x : ℕ). arguments (own_tree (forest c48.args.recs.now x))) (next_of c48.args.recs.now c44.next.ensures c45.first.ensures)) (next_of c48.args.recs.now c44.next.ensures c45.first.ensures) c31.all.ensures h1 in
-            let l = label c26.get_label.ensures h2 in
-            let h3 = labelled c26.get_label.ensures h2 in
-            let k = c23.registers.ensures.label ∙ h3.reads.labels in
-            let h4 = (c23.registers.ensures.moves _ c48.args.r).moves v o₀ _ h3 in
-            let h5 = said c48.args.r Call _ refl (c41.argument-count.ensures ∙ ap₂ (λ (x y : ℕ). cap (argument_count c48.args.recs.now x y)) c45.first.ensures (c43.arguments-len.ensures ∙ ap (λ (x : ℕ). arguments (own_tree (forest c48.args.recs.now x))) (next_of c48.args.recs.now c44.next.ensures c45.first.ensures))) c18.push-call.ensures h4 in
-            let h6 = jumped c48.args.r Jump _ refl l c13.push-jump.ensures h5 in
-            let h7 = (c7.bodies.ensures.bodies c48.args.r _ _ k l).sim z v o₀ _ h6 in
-            given (call_handled (lent c48.args.recs.now c48.args.notes.now) v c48.args.r (call_of c48.args.tail) (c42.nth.ensures ∙ ap₂ (nth
-            c48.args.recs.now) (c43.arguments-len.ensures ∙ ap (λ (x : ℕ). arguments (own_tree (forest c48.args.recs.now x))) (next_of c48.args.recs.now c44.next.ensures c45.first.ensures)) (next_of c48.args.recs.now c44.next.ensures c45.first.ensures)) c28.if1.false A) (placed c48.args.r _ refl l c2.push-label.ensures h7);
+            let h1 = visited z Callee c51.first.ensures c43.called.ensures h in
+            let h2 = through_at z (c49.arguments-len.ensures ∙ ap (λ (x : ℕ). arguments (own_tree (forest c55.args.recs.now x))) (next_of c55.args.recs.now c50.next.ensures c51.first.ensures)) (next_of c55.args.recs.now c50.next.ensures c51.first.ensures) c35.all.ensures h1 in
+            let l = label c28.get_label.ensures h2 in
+            let h3 = labelled c28.get_label.ensures h2 in
+            let k = c25.registers.ensures.label ∙ h3.reads.labels in
+            let h4 = (c25.registers.ensures.moves _ c55.args.r).moves v o₀ _ h3 in
+            let h5 = said c55.args.r Call _ refl (c47.argument-count.ensures ∙ ap₂ (λ (x y : ℕ). cap (argument_count c55.args.recs.now x y)) c51.first.ensures (c49.arguments-len.ensures ∙ ap (λ (x : ℕ). arguments (own_tree (forest c55.args.recs.now x))) (next_of c55.args.recs.now c50.next.ensures c51.first.ensures))) c20.push-call.ensures h4 in
+            let h6 = jumped c55.args.r Jump _ refl l c15.push-jump.ensures h5 in
+            let h7 = (c9.bodies.ensures.bodies c55.args.r _ _ k l).sim z v o₀ _ h6 in
+            given (call_handled (lent c55.args.recs.now c55.args.notes.now) v c55.args.r (call_of c55.args.tail) (c48.nth.ensures ∙ ap₂ (nth
+            c55.args.recs.now) (c49.arguments-len.ensures ∙ ap (λ (x : ℕ). arguments (own_tree (forest c55.args.recs.now x))) (next_of c55.args.recs.now c50.next.ensures c51.first.ensures)) (next_of c55.args.recs.now c50.next.ensures c51.first.ensures)) c30.if1.false A) (placed c55.args.r _ refl l c2.push-label.ensures h7);
       }
 
   pub closed : {M : Type 1} → lts.Closed (calls t) (call_at t) call.Post M
   closed = lts.spec (calls t) (call_at t) call.Post first_requires next_requires arguments_len_requires nth_requires argument_count_requires called_requires
-      all_requires push_calling_requires same_length returns get_label_requires registers_requires push_call_requires push_jump_requires bodies_requires
-      push_label_requires same_length_2 returns_2
+      all_requires push_calling_requires same_length same_length_2 returns get_label_requires registers_requires push_call_requires push_jump_requires
+      bodies_requires push_label_requires same_length_3 same_length_4 returns_2

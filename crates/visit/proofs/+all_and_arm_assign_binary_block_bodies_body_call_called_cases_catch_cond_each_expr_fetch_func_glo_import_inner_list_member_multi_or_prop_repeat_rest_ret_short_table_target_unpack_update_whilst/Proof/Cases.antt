@@ -69,8 +69,8 @@ module _ (t : ℕ) where
   returns : lts.Need-returns (calls t) (cases_at t) cases.Post
   returns c =
       let c1 = c.before in
-      let c4 = c1.before.before.before in
-      resim (λ v z A. match_none (lent c4.args.recs.now c4.args.notes.now) v c4.args.r (sym c1.first.ensures ∙ c.if1.true) A) stay
+      let c5 = c1.before.before.before.before in
+      resim (λ v z A. match_none (lent c5.args.recs.now c5.args.notes.now) v c5.args.r (sym c1.first.ensures ∙ c.if1.true) A) stay
 
   next_requires : lts.Need-next-requires (calls t) (cases_at t) cases.Post
   next_requires c κs =
@@ -83,8 +83,8 @@ module _ (t : ℕ) where
   expr_requires : lts.Need-expr-requires (calls t) (cases_at t) cases.Post
   expr_requires c κs =
       let c7 = c.before.before.before.before.before.before.before in
-      let c10 = c7.before.before.before in
-      (falls_to (size c10.args.recs.now) c10.args.r _ 12 7 t c10.requires.0 (lit< tt) (child1 c10.args.recs.now c7.first.ensures), tt)
+      let c11 = c7.before.before.before.before in
+      (falls_to (size c11.args.recs.now) c11.args.r _ 12 7 t c11.requires.0 (lit< tt) (child1 c11.args.recs.now c7.first.ensures), tt)
 
   width_requires : lts.Need-width-requires (calls t) (cases_at t) cases.Post
   width_requires c κs =
@@ -108,10 +108,10 @@ module _ (t : ℕ) where
 
   bodies_requires : lts.Need-bodies-requires (calls t) (cases_at t) cases.Post
   bodies_requires c κs =
-      let c30 = c.before.before.before.before.before.before.before.before.before.before.before.before.before.before.before.before.before.before.before.before.before.before.before.before.before.before.before.before.before.before in
-      let c32 = c30.before.before in
-      let c35 = c32.before.before.before in (
-        falls_to (size c35.args.recs.now) c35.args.r _ 13 7 t c35.pre.0 (lit< tt) (child2 c35.args.recs.now c30.next.ensures (child1 c35.args.recs.now c32.first.ensures)),
+      let c37 = c.before.before.before.before.before.before.before.before.before.before.before.before.before.before.before.before.before.before.before.before.before.before.before.before.before.before.before.before.before.before.before.before.before.before.before.before.before in
+      let c39 = c37.before.before in
+      let c43 = c39.before.before.before.before in (
+        falls_to (size c43.args.recs.now) c43.args.r _ 13 7 t c43.pre.0 (lit< tt) (child2 c43.args.recs.now c37.next.ensures (child1 c43.args.recs.now c39.first.ensures)),
         tt,
       )
 
@@ -132,46 +132,55 @@ module _ (t : ℕ) where
       let c2 = c.before.before in
       let c7 = c2.before.before.before.before.before in
       let c12 = c7.before.before.before.before.before in
-      let c17 = c12.before.before.before.before.before in
-      let c23 = c17.before.before.before.before.before.before in
-      let c28 = c23.before.before.before.before.before in
-      let c33 = c28.before.before.before.before.before in
-      let c42 = c33.before.before.before.before.before.before.before.before.before in
-      c2.push-pop.auto.0 ∙ c7.push-swap.auto.0 ∙ c12.push-label.auto.0 ∙ c17.bodies.auto.1.1.0 ∙ c23.push-jump.auto.0 ∙ c28.push-null.auto.0 ∙ c33.patterns.auto.1.1.0 ∙ c42.expr.auto.1.1.0
+      let c19 = c12.before.before.before.before.before.before.before in
+      let c25 = c19.before.before.before.before.before.before in
+      let c32 = c25.before.before.before.before.before.before.before in
+      let c40 = c32.before.before.before.before.before.before.before.before in
+      let c51 = c40.before.before.before.before.before.before.before.before.before.before.before in
+      c2.push-pop.auto.0 ∙ c7.push-swap.auto.0 ∙ c12.push-label.auto.0 ∙ c19.bodies.auto.1.1.0 ∙ c25.push-jump.auto.0 ∙ c32.push-null.auto.1.0 ∙ c40.patterns.auto.1.1.0 ∙ c51.expr.auto.1.1.0
+
+  same_length_2 : lts.Need-same-length-2 (calls t) (cases_at t) cases.Post
+  same_length_2 c =
+      let c19 = c.before.before.before.before.before.before.before.before.before.before.before.before.before.before.before.before.before.before.before in
+      let c32 = c19.before.before.before.before.before.before.before.before.before.before.before.before.before in
+      let c40 = c32.before.before.before.before.before.before.before.before in
+      let c51 = c40.before.before.before.before.before.before.before.before.before.before.before in
+      c19.bodies.kept.1.1.1.0 ∙ c32.push-null.kept.1.1.0 ∙ c40.patterns.kept.1.1.1.0 ∙ c51.expr.kept.1.1.1.0
 
   returns_2 : lts.Need-returns-2 (calls t) (cases_at t) cases.Post
   returns_2 c =
       let c2 = c.before.before in
       let c7 = c2.before.before.before.before.before in
       let c12 = c7.before.before.before.before.before in
-      let c17 = c12.before.before.before.before.before in
-      let c23 = c17.before.before.before.before.before.before in
-      let c28 = c23.before.before.before.before.before in
-      let c33 = c28.before.before.before.before.before in
-      let c37 = c33.before.before.before.before in
-      let c38 = c37.before in
-      let c42 = c38.before.before.before.before in
-      let c46 = c42.before.before.before.before in
-      let c48 = c46.before.before in
-      let c49 = c48.before in
-      let c50 = c49.before in
-      let c53 = c50.before.before.before in
+      let c19 = c12.before.before.before.before.before.before.before in
+      let c25 = c19.before.before.before.before.before.before in
+      let c32 = c25.before.before.before.before.before.before.before in
+      let c40 = c32.before.before.before.before.before.before.before.before in
+      let c44 = c40.before.before.before.before in
+      let c45 = c44.before in
+      let c51 = c45.before.before.before.before.before.before in
+      let c55 = c51.before.before.before.before in
+      let c57 = c55.before.before in
+      let c58 = c57.before in
+      let c59 = c58.before in
+      let c63 = c59.before.before.before.before in
       record {
         sim = λ z v o₀ A h.
-            let l = label c46.get_label.ensures h in
-            let h1 = labelled c46.get_label.ensures h in
-            let h2 = visited z Expr c50.first.ensures c42.expr.ensures h1 in
-            let k = label c37.get_labels.ensures h2 in
-            let h3 = labelled c37.get_labels.ensures h2 in
-            let h4 = (c33.patterns.ensures.tests c53.args.r _ k).sim z v o₀ _ h3 in
-            let h5 = nulled c53.args.r c28.push-null.ensures h4 in
-            let h6 = jumped c53.args.r Jump _ refl l c23.push-jump.ensures h5 in
-            let h7 = (c17.bodies.ensures.bodies c53.args.r _ _ k l).sim z v o₀ _ h6 in
-            let h8 = placed c53.args.r _ refl l c12.push-label.ensures h7 in
-            let h9 = said c53.args.r Swap 2 refl refl c7.push-swap.ensures h8 in
-            given (match_run (lent c53.args.recs.now c53.args.notes.now) v c53.args.r (next_of c53.args.recs.now c48.next.ensures c50.first.ensures) c38.width.ensures (λ e. c49.if1.false (c50.first.ensures ∙ e)) A) (said c53.args.r Pop 0 refl refl c2.push-pop.ensures h9);
+            let l = label c55.get_label.ensures h in
+            let h1 = labelled c55.get_label.ensures h in
+            let h2 = visited z Expr c59.first.ensures c51.expr.ensures h1 in
+            let k = label c44.get_labels.ensures h2 in
+            let h3 = labelled c44.get_labels.ensures h2 in
+            let h4 = (c40.patterns.ensures.tests c63.args.r _ k).sim z v o₀ _ h3 in
+            let h5 = nulled c63.args.r c32.push-null.ensures h4 in
+            let h6 = jumped c63.args.r Jump _ refl l c25.push-jump.ensures h5 in
+            let h7 = (c19.bodies.ensures.bodies c63.args.r _ _ k l).sim z v o₀ _ h6 in
+            let h8 = placed c63.args.r _ refl l c12.push-label.ensures h7 in
+            let h9 = said c63.args.r Swap 2 refl refl c7.push-swap.ensures h8 in
+            given (match_run (lent c63.args.recs.now c63.args.notes.now) v c63.args.r (next_of c63.args.recs.now c57.next.ensures c59.first.ensures) c45.width.ensures (λ e. c58.if1.false (c59.first.ensures ∙ e)) A) (said c63.args.r Pop 0 refl refl c2.push-pop.ensures h9);
       }
 
   pub closed : {M : Type 1} → lts.Closed (calls t) (cases_at t) cases.Post M
   closed = lts.spec (calls t) (cases_at t) cases.Post first_requires returns next_requires get_label_requires expr_requires width_requires get_labels_requires
-      patterns_requires push_null_requires push_jump_requires bodies_requires push_label_requires push_swap_requires push_pop_requires same_length returns_2
+      patterns_requires push_null_requires push_jump_requires bodies_requires push_label_requires push_swap_requires push_pop_requires same_length
+      same_length_2 returns_2

@@ -76,57 +76,64 @@ module _ (t : ℕ) where
 
   expr_requires : lts.Need-expr-requires (calls t) (catch_at t) catch.Post
   expr_requires c κs =
-      let c17 = c.before.before.before.before.before.before.before.before.before.before.before.before.before.before.before.before.before in
-      let c18 = c17.before in
-      let c21 = c18.before.before.before in (
-        falls_to (size c21.args.recs.now) c21.args.handler _ 12 7 t c21.requires.0 (lit< tt) (child2 c21.args.recs.now c17.next.ensures (child1
-            c21.args.recs.now c18.first.ensures)),
+      let c19 = c.before.before.before.before.before.before.before.before.before.before.before.before.before.before.before.before.before.before.before in
+      let c20 = c19.before in
+      let c24 = c20.before.before.before.before in (
+        falls_to (size c24.args.recs.now) c24.args.handler _ 12 7 t c24.pre.0 (lit< tt) (child2 c24.args.recs.now c19.next.ensures (child1
+            c24.args.recs.now c20.first.ensures)),
         tt,
       )
 
   expr_requires_2 : lts.Need-expr-requires-2 (calls t) (catch_at t) catch.Post
   expr_requires_2 c κs =
-      let c22 = c.before.before.before.before.before.before.before.before.before.before.before.before.before.before.before.before.before.before.before.before.before.before in
-      let c23 = c22.before in
-      let c24 = c23.before in
-      let c27 = c24.before.before.before in (
-        falls_to (size c27.args.recs.now) c27.args.handler _ 12 7 t c27.pre.0 (lit< tt) (child2 c27.args.recs.now c22.next2.ensures
-            (child2 c27.args.recs.now c23.next.ensures (child1 c27.args.recs.now c24.first.ensures))),
+      let c26 = c.before.before.before.before.before.before.before.before.before.before.before.before.before.before.before.before.before.before.before.before.before.before.before.before.before.before in
+      let c27 = c26.before in
+      let c28 = c27.before in
+      let c32 = c28.before.before.before.before in (
+        falls_to (size c32.args.recs.now) c32.args.handler _ 12 7 t c32.pre.0 (lit< tt) (child2 c32.args.recs.now c26.next2.ensures
+            (child2 c32.args.recs.now c27.next.ensures (child1 c32.args.recs.now c28.first.ensures))),
         tt,
       )
 
   same_length : lts.Need-same-length (calls t) (catch_at t) catch.Post
   same_length c =
-      let c2 = c.before.before in
-      let c8 = c2.before.before.before.before.before.before in
-      let c14 = c8.before.before.before.before.before.before in
-      let c20 = c14.before.before.before.before.before.before in
-      c2.expr2.auto.1.1.0 ∙ c8.expr.auto.1.1.0 ∙ c14.push-check-effect.auto.0 ∙ c20.push-load-const.auto.1.0
+      let c4 = c.before.before.before.before in
+      let c12 = c4.before.before.before.before.before.before.before.before in
+      let c18 = c12.before.before.before.before.before.before in
+      let c26 = c18.before.before.before.before.before.before.before.before in
+      c4.expr2.auto.1.1.0 ∙ c12.expr.auto.1.1.0 ∙ c18.push-check-effect.auto.0 ∙ c26.push-load-const.auto.1.0
+
+  same_length_2 : lts.Need-same-length-2 (calls t) (catch_at t) catch.Post
+  same_length_2 c =
+      let c4 = c.before.before.before.before in
+      let c12 = c4.before.before.before.before.before.before.before.before in
+      let c26 = c12.before.before.before.before.before.before.before.before.before.before.before.before.before.before in
+      c4.expr2.auto.1.1.1.0 ∙ c12.expr.auto.1.1.1.0 ∙ c26.push-load-const.auto.1.1.0
 
   returns : lts.Need-returns (calls t) (catch_at t) catch.Post
   unfolding does doing exec
   returns c =
-      let c2 = c.before.before in
-      let c8 = c2.before.before.before.before.before.before in
-      let c14 = c8.before.before.before.before.before.before in
-      let c15 = c14.before in
-      let c20 = c15.before.before.before.before.before in
-      let c24 = c20.before.before.before.before in
-      let c25 = c24.before in
-      let c26 = c25.before in
-      let c27 = c26.before in
-      let c30 = c27.before.before.before in
+      let c4 = c.before.before.before.before in
+      let c12 = c4.before.before.before.before.before.before.before.before in
+      let c18 = c12.before.before.before.before.before.before in
+      let c19 = c18.before in
+      let c26 = c19.before.before.before.before.before.before.before in
+      let c30 = c26.before.before.before.before in
+      let c31 = c30.before in
+      let c32 = c31.before in
+      let c33 = c32.before in
+      let c37 = c33.before.before.before.before in
       record {
         catches = λ q. record {
           sim = λ z v o₀ A h.
-              let h1 = effect_loaded (lent c30.args.recs.now c30.args.notes.now) c30.args.handler z q c24.capped.ensures c20.push-load-const.ensures h in
-              let h2 = said c30.args.handler CheckEffect _ refl (c15.params-len.ensures ∙ ap (λ (y : ℕ). cap (width (below (own_tree (forest c30.args.recs.now y)) 0))) (next_of c30.args.recs.now c26.next.ensures c27.first.ensures) ∙ ap (λ (k : Nodes). cap (width k)) (sym (below_nodes
-              c30.args.recs.now (first c30.args.recs.now c30.args.handler) 0))) c14.push-check-effect.ensures h1 in
-              let h3 = visited z Expr (next_of c30.args.recs.now c26.next.ensures c27.first.ensures) c8.expr.ensures h2 in
-              visited z Expr (next_of c30.args.recs.now c25.next2.ensures (next_of c30.args.recs.now c26.next.ensures c27.first.ensures)) c2.expr2.ensures h3;
+              let h1 = effect_loaded (lent c37.args.recs.now c37.args.notes.now) c37.args.handler z q c30.capped.ensures c26.push-load-const.ensures h in
+              let h2 = said c37.args.handler CheckEffect _ refl (c19.params-len.ensures ∙ ap (λ (y : ℕ). cap (width (below (own_tree (forest c37.args.recs.now y)) 0))) (next_of c37.args.recs.now c32.next.ensures c33.first.ensures) ∙ ap (λ (k : Nodes). cap (width k)) (sym (below_nodes
+              c37.args.recs.now (first c37.args.recs.now c37.args.handler) 0))) c18.push-check-effect.ensures h1 in
+              let h3 = visited z Expr (next_of c37.args.recs.now c32.next.ensures c33.first.ensures) c12.expr.ensures h2 in
+              visited z Expr (next_of c37.args.recs.now c31.next2.ensures (next_of c37.args.recs.now c32.next.ensures c33.first.ensures)) c4.expr2.ensures h3;
         };
       }
 
   pub closed : {M : Type 1} → lts.Closed (calls t) (catch_at t) catch.Post M
   closed = lts.spec (calls t) (catch_at t) catch.Post first_requires next_requires next_requires_2 capped_requires push_load_const_requires params_len_requires
-      push_check_effect_requires expr_requires expr_requires_2 same_length returns
+      push_check_effect_requires expr_requires expr_requires_2 same_length same_length_2 returns

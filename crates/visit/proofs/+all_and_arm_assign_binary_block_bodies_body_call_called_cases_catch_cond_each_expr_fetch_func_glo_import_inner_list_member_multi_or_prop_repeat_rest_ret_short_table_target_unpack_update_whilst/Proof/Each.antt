@@ -11,12 +11,10 @@ use Rattle.plain.proofs.loops.iterate.Reads as iterate-reads
 use Rattle.tables.proofs.ast.next.Reads as next-reads
 use Rattle.plain.proofs.siblings.nth.Reads as nth-reads
 use Rattle.tables.proofs.ast.p.Reads as p-reads
-use Rattle.emit.proofs.op.push_call.Reads as push-call-reads
 use Rattle.emit.proofs.op.push_jump.Reads as push-jump-reads
 use Rattle.emit.proofs.code.push_label.Reads as push-label-reads
 use Rattle.emit.proofs.op.push_mark_add_stack_size.Reads as push-mark-add-stack-size-reads
 use Rattle.emit.proofs.op.push_pop.Reads as push-pop-reads
-use Rattle.emit.proofs.op.push_register_handler.Reads as push-register-handler-reads
 use Rattle.plain.proofs.loops.targets.Reads as targets-reads
 use Rattle.visit.proofs.+all_and_arm_assign_binary_block_bodies_body_call_called_cases_catch_cond_each_expr_fetch_func_glo_import_inner_list_member_multi_or_prop_repeat_rest_ret_short_table_target_unpack_update_whilst.Proof.Base.{each_at, expr_below}
 use mathlib.Core.Path.{refl, ap₂, ◌∙◌}
@@ -24,7 +22,7 @@ use borrow.Author.Rules.{rules}
 use lib.Dec.{lit<}
 use Rattle.tables.specs.Record.{word, size}
 use Rattle.tables.specs.Forest.{first, next}
-use Rattle.rules.specs.Marker.{Jump, RegisterHandler, Pop, Call, MarkAddStackSize}
+use Rattle.rules.specs.Marker.{Jump, Pop, MarkAddStackSize}
 use Rattle.rules.specs.Step.{Expr}
 use Rattle.emit.specs.Rep.{lent}
 use Rattle.emit.specs.Does.{nth}
@@ -55,10 +53,6 @@ calls t = (
   expr.Post,
   iterate-reads.Asked,
   iterate-reads.Learnt,
-  push-register-handler-reads.Asked,
-  push-register-handler-reads.Learnt,
-  push-call-reads.Asked,
-  push-call-reads.Learnt,
   push-jump-reads.Asked,
   push-jump-reads.Learnt,
   push-label-reads.Asked,
@@ -115,21 +109,13 @@ module _ (t : ℕ) where
       let c12 = c.before.before.before.before.before.before.before.before.before.before.before.before in
       let c13 = c12.before in
       let c14 = c13.before in
-      let c17 = c14.before.before.before in (
-        falls_to (size c17.args.recs.now) c17.args.r _ 12 7 t c17.requires.0 (lit< tt) (linked_nth c17.args.recs.now c17.args.r c13.p.result c14.first.ensures c12.nth.ensures),
+      let c18 = c14.before.before.before.before in (
+        falls_to (size c18.args.recs.now) c18.args.r _ 12 7 t c18.requires.0 (lit< tt) (linked_nth c18.args.recs.now c18.args.r c13.p.result c14.first.ensures c12.nth.ensures),
         tt,
       )
 
   iterate_requires : lts.Need-iterate-requires (calls t) (each_at t) each.Post
   iterate_requires c κs =
-      tt
-
-  push_register_handler_requires : lts.Need-push-register-handler-requires (calls t) (each_at t) each.Post
-  push_register_handler_requires c κs =
-      tt
-
-  push_call_requires : lts.Need-push-call-requires (calls t) (each_at t) each.Post
-  push_call_requires c κs =
       tt
 
   push_jump_requires : lts.Need-push-jump-requires (calls t) (each_at t) each.Post
@@ -154,13 +140,13 @@ module _ (t : ℕ) where
 
   expr_requires_2 : lts.Need-expr-requires-2 (calls t) (each_at t) each.Post
   expr_requires_2 c κs =
-      let c59 = c.before.before.before.before.before.before.before.before.before.before.before.before.before.before.before.before.before.before.before.before.before.before.before.before.before.before.before.before.before.before.before.before.before.before.before.before.before.before.before.before.before.before.before.before.before.before.before.before.before.before.before.before.before.before.before.before.before.before.before in
-      let c60 = c59.before in
-      let c61 = c60.before in
-      let c62 = c61.before in
-      let c65 = c62.before.before.before in (
-        falls_to (size c65.args.recs.now) c65.args.r _ 12 7 t c65.pre.0 (lit< tt) (child2 c65.args.recs.now c59.next.ensures (linked_nth
-            c65.args.recs.now c65.args.r c61.p.result c62.first.ensures c60.nth.ensures)),
+      let c55 = c.before.before.before.before.before.before.before.before.before.before.before.before.before.before.before.before.before.before.before.before.before.before.before.before.before.before.before.before.before.before.before.before.before.before.before.before.before.before.before.before.before.before.before.before.before.before.before.before.before.before.before.before.before.before.before in
+      let c56 = c55.before in
+      let c57 = c56.before in
+      let c58 = c57.before in
+      let c62 = c58.before.before.before.before in (
+        falls_to (size c62.args.recs.now) c62.args.r _ 12 7 t c62.pre.0 (lit< tt) (child2 c62.args.recs.now c55.next.ensures (linked_nth
+            c62.args.recs.now c62.args.r c57.p.result c58.first.ensures c56.nth.ensures)),
         tt,
       )
 
@@ -170,65 +156,68 @@ module _ (t : ℕ) where
 
   same_length : lts.Need-same-length (calls t) (each_at t) each.Post
   same_length c =
-      let c2 = c.before.before in
-      let c7 = c2.before.before.before.before.before in
-      let c13 = c7.before.before.before.before.before.before in
-      let c19 = c13.before.before.before.before.before.before in
-      let c24 = c19.before.before.before.before.before in
-      let c29 = c24.before.before.before.before.before in
-      let c34 = c29.before.before.before.before.before in
-      let c39 = c34.before.before.before.before.before in
-      let c44 = c39.before.before.before.before.before in
-      let c49 = c44.before.before.before.before.before in
-      let c55 = c49.before.before.before.before.before.before in
-      c2.end-for.auto.0 ∙ c7.expr2.auto.1.1.0 ∙ c13.targets.auto.1.1.0 ∙ c19.push-pop.auto.0 ∙ c24.push-mark-add-stack-size.auto.0 ∙ c29.push-label.auto.0 ∙ c34.push-jump.auto.0 ∙ c39.push-call.auto.0 ∙ c44.push-register-handler.auto.0 ∙ c49.iterate.auto.1.0 ∙ c55.expr.auto.1.1.0
+      let c4 = c.before.before.before.before in
+      let c12 = c4.before.before.before.before.before.before.before.before in
+      let c20 = c12.before.before.before.before.before.before.before.before in
+      let c26 = c20.before.before.before.before.before.before in
+      let c31 = c26.before.before.before.before.before in
+      let c36 = c31.before.before.before.before.before in
+      let c41 = c36.before.before.before.before.before in
+      let c48 = c41.before.before.before.before.before.before.before in
+      let c56 = c48.before.before.before.before.before.before.before.before in
+      c4.end-for.auto.1.0 ∙ c12.expr2.auto.1.1.0 ∙ c20.targets.auto.1.1.0 ∙ c26.push-pop.auto.0 ∙ c31.push-mark-add-stack-size.auto.0 ∙ c36.push-label.auto.0 ∙ c41.push-jump.auto.0 ∙ c48.iterate.auto.1.0 ∙ c56.expr.auto.1.1.0
+
+  same_length_2 : lts.Need-same-length-2 (calls t) (each_at t) each.Post
+  same_length_2 c =
+      let c4 = c.before.before.before.before in
+      let c12 = c4.before.before.before.before.before.before.before.before in
+      let c20 = c12.before.before.before.before.before.before.before.before in
+      let c48 = c20.before.before.before.before.before.before.before.before.before.before.before.before.before.before.before.before.before.before.before.before.before.before.before.before.before.before.before.before in
+      let c56 = c48.before.before.before.before.before.before.before.before in
+      c4.end-for.auto.1.1.0 ∙ c12.expr2.auto.1.1.1.0 ∙ c20.targets.auto.1.1.1.0 ∙ c48.iterate.kept.1.1.0 ∙ c56.expr.kept.1.1.1.0
 
   returns : lts.Need-returns (calls t) (each_at t) each.Post
   returns c =
-      let c2 = c.before.before in
-      let c7 = c2.before.before.before.before.before in
-      let c13 = c7.before.before.before.before.before.before in
-      let c19 = c13.before.before.before.before.before.before in
-      let c24 = c19.before.before.before.before.before in
-      let c29 = c24.before.before.before.before.before in
-      let c34 = c29.before.before.before.before.before in
-      let c39 = c34.before.before.before.before.before in
-      let c44 = c39.before.before.before.before.before in
-      let c49 = c44.before.before.before.before.before in
-      let c55 = c49.before.before.before.before.before.before in
-      let c59 = c55.before.before.before.before in
-      let c61 = c59.before.before in
-      let c63 = c61.before.before in
-      let c65 = c63.before.before in
-      let c67 = c65.before.before in
-      let c68 = c67.before in
+      let c4 = c.before.before.before.before in
+      let c12 = c4.before.before.before.before.before.before.before.before in
+      let c20 = c12.before.before.before.before.before.before.before.before in
+      let c26 = c20.before.before.before.before.before.before in
+      let c31 = c26.before.before.before.before.before in
+      let c36 = c31.before.before.before.before.before in
+      let c41 = c36.before.before.before.before.before in
+      let c48 = c41.before.before.before.before.before.before.before in
+      let c56 = c48.before.before.before.before.before.before.before.before in
+      let c60 = c56.before.before.before.before in
+      let c62 = c60.before.before in
+      let c64 = c62.before.before in
+      let c66 = c64.before.before in
+      let c68 = c66.before.before in
       let c69 = c68.before in
       let c70 = c69.before in
-      let c73 = c70.before.before.before in
+      let c71 = c70.before in
+      let c75 = c71.before.before.before.before in
       record {
         sim = λ z v o₀ A h.
-            let l = label c65.get_label.ensures h in
-            let h1 = labelled c65.get_label.ensures h in
-            let m = label c63.get-label2.ensures h1 in
-            let h2 = labelled c63.get-label2.ensures h1 in
-            let k = label c61.get-label3.ensures h2 in
-            let h3 = labelled c61.get-label3.ensures h2 in
-            let h4 = given (behind_body _ c73.args.r A) (begun c73.args.r _ _ _ l h3 c59.begin_loop.ensures) in
-            let h5 = visited z Expr (c68.nth.ensures ∙ ap₂ (nth c73.args.recs.now) c69.p.ensures c70.first.ensures) c55.expr.ensures h4 in
-            let h6 = (c49.iterate.ensures _ l).moves v o₀ _ h5 in
-            let j1 = jumped c73.args.r RegisterHandler _ refl k c44.push-register-handler.ensures h6 in
-            let j2 = said c73.args.r Call 1 refl refl c39.push-call.ensures j1 in
-            let h7 = jumped c73.args.r Jump _ refl m c34.push-jump.ensures j2 in
-            let h8 = placed c73.args.r _ refl k c29.push-label.ensures h7 in
-            let h9 = said c73.args.r MarkAddStackSize 3 refl refl c24.push-mark-add-stack-size.ensures h8 in
-            let i1 = said c73.args.r Pop 0 refl refl c19.push-pop.ensures h9 in
-            let i2 = c13.targets.ensures.moves v o₀ _ i1 in
-            let i3 = visited z Expr (next_of c73.args.recs.now c67.next.ensures (c68.nth.ensures ∙ ap₂ (nth c73.args.recs.now) c69.p.ensures
-            c70.first.ensures) ∙ nth_next c73.args.recs.now (word c73.args.recs.now c73.args.r 2) (first c73.args.recs.now c73.args.r)) c7.expr2.ensures i2 in
-            given (for_run (lent c73.args.recs.now c73.args.notes.now) v c73.args.r A) (((c2.end-for.ensures c73.args.recs.now _).moves c73.args.r _ _ l m).moves v o₀ _ i3);
+            let l = label c66.get_label.ensures h in
+            let h1 = labelled c66.get_label.ensures h in
+            let m = label c64.get-label2.ensures h1 in
+            let h2 = labelled c64.get-label2.ensures h1 in
+            let k = label c62.get-label3.ensures h2 in
+            let h3 = labelled c62.get-label3.ensures h2 in
+            let h4 = given (behind_body _ c75.args.r A) (begun c75.args.r _ _ _ l h3 c60.begin_loop.ensures) in
+            let h5 = visited z Expr (c69.nth.ensures ∙ ap₂ (nth c75.args.recs.now) c70.p.ensures c71.first.ensures) c56.expr.ensures h4 in
+            let h6 = (c48.iterate.ensures.moves c75.args.r _ _ l k).moves v o₀ _ h5 in
+            let h7 = jumped c75.args.r Jump _ refl m c41.push-jump.ensures h6 in
+            let h8 = placed c75.args.r _ refl k c36.push-label.ensures h7 in
+            let h9 = said c75.args.r MarkAddStackSize 3 refl refl c31.push-mark-add-stack-size.ensures h8 in
+            let i1 = said c75.args.r Pop 0 refl refl c26.push-pop.ensures h9 in
+            let i2 = (c20.targets.ensures c75.args.r).moves v o₀ _ i1 in
+            let i3 = visited z Expr (next_of c75.args.recs.now c68.next.ensures (c69.nth.ensures ∙ ap₂ (nth c75.args.recs.now) c70.p.ensures
+            c71.first.ensures) ∙ nth_next c75.args.recs.now (word c75.args.recs.now c75.args.r 2) (first c75.args.recs.now c75.args.r)) c12.expr2.ensures i2 in
+            given (for_run (lent c75.args.recs.now c75.args.notes.now) v c75.args.r c70.p.ensures c71.first.ensures A) ((c4.end-for.ensures.moves c75.args.r _ _ l m).moves v o₀ _ i3);
       }
 
   pub closed : {M : Type 1} → lts.Closed (calls t) (each_at t) each.Post M
   closed = lts.spec (calls t) (each_at t) each.Post first_requires p_requires cast_nth nth_requires next_requires get_label_requires get_label_requires_2
-      get_label_requires_3 begin_loop_requires expr_requires iterate_requires push_register_handler_requires push_call_requires push_jump_requires
-      push_label_requires push_mark_add_stack_size_requires push_pop_requires targets_requires expr_requires_2 end_for_requires same_length returns
+      get_label_requires_3 begin_loop_requires expr_requires iterate_requires push_jump_requires push_label_requires push_mark_add_stack_size_requires
+      push_pop_requires targets_requires expr_requires_2 end_for_requires same_length same_length_2 returns

@@ -53,8 +53,8 @@ calls t = (
 module _ (t : ℕ) where
   returns : lts.Need-returns (calls t) (fetch_at t) fetch.Post
   returns c =
-      let c3 = c.before.before.before in
-      resim (λ v z A. absent (lent c3.args.recs.now c3.args.notes.now) v Before c.if1.true A) stay
+      let c4 = c.before.before.before.before in
+      resim (λ v z A. absent (lent c4.args.recs.now c4.args.notes.now) v Before c.if1.true A) stay
 
   kind_requires : lts.Need-kind-requires (calls t) (fetch_at t) fetch.Post
   kind_requires c κs =
@@ -64,8 +64,8 @@ module _ (t : ℕ) where
   returns_2 c =
       let c1 = c.before in
       let c2 = c1.before in
-      let c5 = c2.before.before.before in
-      resim (λ v z A. before_other (lent c5.args.recs.now c5.args.notes.now) v c5.args.left c2.if1.false (λ e. c.if2.true (c1.kind.ensures ∙ e)) A) stay
+      let c6 = c2.before.before.before.before in
+      resim (λ v z A. before_other (lent c6.args.recs.now c6.args.notes.now) v c6.args.left c2.if1.false (λ e. c.if2.true (c1.kind.ensures ∙ e)) A) stay
 
   first_requires : lts.Need-first-requires (calls t) (fetch_at t) fetch.Post
   first_requires c κs =
@@ -93,11 +93,11 @@ module _ (t : ℕ) where
       let c8 = c5.before.before.before in
       let c9 = c8.before in
       let c10 = c9.before in
-      let c13 = c10.before.before.before in
-      resim (λ v z A. before_plain (lent c13.args.recs.now c13.args.notes.now) v c13.args.left c10.if1.false (sym c9.kind.ensures ∙ c8.if2.false) (sym c1.detail.ensures ∙ c.if3.true) A)
+      let c14 = c10.before.before.before.before in
+      resim (λ v z A. before_plain (lent c14.args.recs.now c14.args.notes.now) v c14.args.left c10.if1.false (sym c9.kind.ensures ∙ c8.if2.false) (sym c1.detail.ensures ∙ c.if3.true) A)
       (record {
         sim = λ z v o₀ A h.
-            used z c13.args.left 0 Get c5.first.ensures c4.load.ensures h;
+            used z c14.args.left 0 Get c5.first.ensures c4.load.ensures h;
       })
 
   left_property_requires : lts.Need-left-property-requires (calls t) (fetch_at t) fetch.Post
@@ -138,20 +138,20 @@ module _ (t : ℕ) where
       let c21 = c18.before.before.before in
       let c22 = c21.before in
       let c23 = c22.before in
-      let c26 = c23.before.before.before in
+      let c27 = c23.before.before.before.before in
       record {
         sim = λ z v o₀ A h.
-            let h1 = used z c26.args.left 0 Get c18.first.ensures c17.load.ensures h in
-            let h2 = said c26.args.left Copy 1 refl refl c7.push-copy.ensures h1 in
-            given (before_meta (lent c26.args.recs.now c26.args.notes.now) v c26.args.left c23.if1.false (sym c22.kind.ensures ∙ c21.if2.false) (λ e. c13.if3.false (c14.detail.ensures ∙ e)) c12.left_property.ensures (sym c11.is_meta_lem.ensures ∙ c10.if4.true) A) (got
-            c26.args.left (word c26.args.recs.now c26.args.left 1 - 1) c12.left_property.ensures c2.push-get.ensures h2);
+            let h1 = used z c27.args.left 0 Get c18.first.ensures c17.load.ensures h in
+            let h2 = said c27.args.left Copy 1 refl refl c7.push-copy.ensures h1 in
+            given (before_meta (lent c27.args.recs.now c27.args.notes.now) v c27.args.left c23.if1.false (sym c22.kind.ensures ∙ c21.if2.false) (λ e. c13.if3.false (c14.detail.ensures ∙ e)) c12.left_property.ensures (sym c11.is_meta_lem.ensures ∙ c10.if4.true) A) (got
+            c27.args.left (word c27.args.recs.now c27.args.left 1 - 1) c12.left_property.ensures c2.push-get.ensures h2);
       }
 
   prop_requires : lts.Need-prop-requires (calls t) (fetch_at t) fetch.Post
   prop_requires c κs =
       let c16 = c.before.before.before.before.before.before.before.before.before.before.before.before.before.before.before.before in
-      let c19 = c16.before.before.before in
-      (falls_rank (size c19.args.recs.now) c19.args.left 6 8 t c19.requires.0 c16.if1.false (lit< tt), tt)
+      let c20 = c16.before.before.before.before in
+      (falls_rank (size c20.args.recs.now) c20.args.left 6 8 t c20.requires.0 c16.if1.false (lit< tt), tt)
 
   push_copy_requires_2 : lts.Need-push-copy-requires-2 (calls t) (fetch_at t) fetch.Post
   push_copy_requires_2 c κs =
@@ -170,9 +170,14 @@ module _ (t : ℕ) where
       let c2 = c.before.before in
       let c7 = c2.before.before.before.before.before in
       let c12 = c7.before.before.before.before.before in
-      let c17 = c12.before.before.before.before.before in
-      let c28 = c17.before.before.before.before.before.before.before.before.before.before.before in
-      c2.push-get2.auto.0 ∙ c7.push-copy3.auto.0 ∙ c12.push-copy2.auto.0 ∙ c17.prop.auto.1.1.0 ∙ c28.load.auto.1.0
+      let c19 = c12.before.before.before.before.before.before.before in
+      let c30 = c19.before.before.before.before.before.before.before.before.before.before.before in
+      c2.push-get2.auto.0 ∙ c7.push-copy3.auto.0 ∙ c12.push-copy2.auto.0 ∙ c19.prop.auto.1.1.0 ∙ c30.load.auto.1.0
+
+  same_length_4 : lts.Need-same-length-4 (calls t) (fetch_at t) fetch.Post
+  same_length_4 c =
+      let c19 = c.before.before.before.before.before.before.before.before.before.before.before.before.before.before.before.before.before.before.before in
+      c19.prop.kept.1.1.1.0
 
   returns_5 : lts.Need-returns-5 (calls t) (fetch_at t) fetch.Post
   unfolding does doing exec
@@ -180,28 +185,28 @@ module _ (t : ℕ) where
       let c2 = c.before.before in
       let c7 = c2.before.before.before.before.before in
       let c12 = c7.before.before.before.before.before in
-      let c17 = c12.before.before.before.before.before in
-      let c21 = c17.before.before.before.before in
-      let c22 = c21.before in
-      let c23 = c22.before in
+      let c19 = c12.before.before.before.before.before.before.before in
+      let c23 = c19.before.before.before.before in
       let c24 = c23.before in
       let c25 = c24.before in
-      let c28 = c25.before.before.before in
-      let c29 = c28.before in
-      let c32 = c29.before.before.before in
-      let c33 = c32.before in
-      let c34 = c33.before in
-      let c37 = c34.before.before.before in
+      let c26 = c25.before in
+      let c27 = c26.before in
+      let c30 = c27.before.before.before in
+      let c31 = c30.before in
+      let c34 = c31.before.before.before in
+      let c35 = c34.before in
+      let c36 = c35.before in
+      let c40 = c36.before.before.before.before in
       record {
         sim = λ z v o₀ A h.
-            let h1 = used z c37.args.left 0 Get c29.first.ensures c28.load.ensures h in
-            let h2 = propped z c37.args.left (word c37.args.recs.now c37.args.left 1 - 1) c23.left_property.ensures c17.prop.ensures h1 in
-            let h3 = said c37.args.left Copy 2 refl refl c12.push-copy2.ensures h2 in
-            let h4 = said c37.args.left Copy 2 refl refl c7.push-copy3.ensures h3 in
-            given (before_member (lent c37.args.recs.now c37.args.notes.now) v c37.args.left c34.if1.false (sym c33.kind.ensures ∙ c32.if2.false) (λ e. c24.if3.false (c25.detail.ensures ∙ e)) c23.left_property.ensures (sym c22.is_meta_lem.ensures ∙ c21.if4.false) A) (got c37.args.left (word c37.args.recs.now c37.args.left 1 - 1) c23.left_property.ensures c2.push-get2.ensures h4);
+            let h1 = used z c40.args.left 0 Get c31.first.ensures c30.load.ensures h in
+            let h2 = propped z c40.args.left (word c40.args.recs.now c40.args.left 1 - 1) c25.left_property.ensures c19.prop.ensures h1 in
+            let h3 = said c40.args.left Copy 2 refl refl c12.push-copy2.ensures h2 in
+            let h4 = said c40.args.left Copy 2 refl refl c7.push-copy3.ensures h3 in
+            given (before_member (lent c40.args.recs.now c40.args.notes.now) v c40.args.left c36.if1.false (sym c35.kind.ensures ∙ c34.if2.false) (λ e. c26.if3.false (c27.detail.ensures ∙ e)) c25.left_property.ensures (sym c24.is_meta_lem.ensures ∙ c23.if4.false) A) (got c40.args.left (word c40.args.recs.now c40.args.left 1 - 1) c25.left_property.ensures c2.push-get2.ensures h4);
       }
 
   pub closed : {M : Type 1} → lts.Closed (calls t) (fetch_at t) fetch.Post M
   closed = lts.spec (calls t) (fetch_at t) fetch.Post returns kind_requires returns_2 first_requires load_requires detail_requires same_length returns_3
       left_property_requires is_meta_requires push_copy_requires push_get_requires same_length_2 returns_4 prop_requires push_copy_requires_2
-      push_copy_requires_3 push_get_requires_2 same_length_3 returns_5
+      push_copy_requires_3 push_get_requires_2 same_length_3 same_length_4 returns_5

@@ -50,26 +50,31 @@ module _ (t : ℕ) where
 
   expr_requires : lts.Need-expr-requires (calls t) (func_at t) func.Post
   expr_requires c κs =
-      let c8 = c.before.before.before.before.before.before.before.before in
-      (falls_to (size c8.args.recs.now) c8.args.r _ 12 7 t c8.requires.0 (lit< tt) (child1 c8.args.recs.now c.first.ensures), tt)
+      let c9 = c.before.before.before.before.before.before.before.before.before in
+      (falls_to (size c9.args.recs.now) c9.args.r _ 12 7 t c9.requires.0 (lit< tt) (child1 c9.args.recs.now c.first.ensures), tt)
 
   same_length : lts.Need-same-length (calls t) (func_at t) func.Post
   same_length c =
-      let c2 = c.before.before in
-      c2.expr.auto.1.1.0
+      let c4 = c.before.before.before.before in
+      c4.expr.auto.1.1.0
+
+  same_length_2 : lts.Need-same-length-2 (calls t) (func_at t) func.Post
+  same_length_2 c =
+      let c4 = c.before.before.before.before in
+      c4.expr.auto.1.1.1.0
 
   returns : lts.Need-returns (calls t) (func_at t) func.Post
   unfolding does doing exec
   returns c =
-      let c2 = c.before.before in
-      let c3 = c2.before in
-      let c7 = c3.before.before.before.before in
-      let c8 = c7.before in
-      let c11 = c8.before.before.before in
-      resim (λ v z A. either_no (lent c11.args.recs.now c11.args.notes.now) v c11.args.r _ _ _ A (ne_eqb _ 1 (λ e. c7.if1.true (c8.detail.ensures ∙ e))))
+      let c4 = c.before.before.before.before in
+      let c5 = c4.before in
+      let c9 = c5.before.before.before.before in
+      let c10 = c9.before in
+      let c14 = c10.before.before.before.before in
+      resim (λ v z A. either_no (lent c14.args.recs.now c14.args.notes.now) v c14.args.r _ _ _ A (ne_eqb _ 1 (λ e. c9.if1.true (c10.detail.ensures ∙ e))))
       (record {
         sim = λ z v o₀ A h.
-            visited z Expr c3.first.ensures c2.expr.ensures h;
+            visited z Expr c5.first.ensures c4.expr.ensures h;
       })
 
   first_requires_2 : lts.Need-first-requires-2 (calls t) (func_at t) func.Post
@@ -84,8 +89,8 @@ module _ (t : ℕ) where
   expr_requires_2 c κs =
       let c3 = c.before.before.before in
       let c4 = c3.before in
-      let c9 = c4.before.before.before.before.before in (
-        falls_to (size c9.args.recs.now) c9.args.r _ 12 7 t c9.requires.0 (lit< tt) (child2 c9.args.recs.now c3.next.ensures (child1 c9.args.recs.now c4.first2.ensures)),
+      let c10 = c4.before.before.before.before.before.before in (
+        falls_to (size c10.args.recs.now) c10.args.r _ 12 7 t c10.requires.0 (lit< tt) (child2 c10.args.recs.now c3.next.ensures (child1 c10.args.recs.now c4.first2.ensures)),
         tt,
       )
 
@@ -97,32 +102,38 @@ module _ (t : ℕ) where
   push_null_requires c κs =
       tt
 
-  same_length_2 : lts.Need-same-length-2 (calls t) (func_at t) func.Post
-  same_length_2 c =
-      let c2 = c.before.before in
-      let c7 = c2.before.before.before.before.before in
-      let c12 = c7.before.before.before.before.before in
-      c2.push-null.auto.0 ∙ c7.store.auto.1.0 ∙ c12.expr2.auto.1.1.0
+  same_length_3 : lts.Need-same-length-3 (calls t) (func_at t) func.Post
+  same_length_3 c =
+      let c4 = c.before.before.before.before in
+      let c10 = c4.before.before.before.before.before.before in
+      let c17 = c10.before.before.before.before.before.before.before in
+      c4.push-null.auto.1.0 ∙ c10.store.auto.1.0 ∙ c17.expr2.auto.1.1.0
+
+  same_length_4 : lts.Need-same-length-4 (calls t) (func_at t) func.Post
+  same_length_4 c =
+      let c4 = c.before.before.before.before in
+      let c17 = c4.before.before.before.before.before.before.before.before.before.before.before.before.before in
+      c4.push-null.auto.1.1.0 ∙ c17.expr2.auto.1.1.1.0
 
   returns_2 : lts.Need-returns-2 (calls t) (func_at t) func.Post
   unfolding does doing exec
   returns_2 c =
-      let c2 = c.before.before in
-      let c7 = c2.before.before.before.before.before in
-      let c12 = c7.before.before.before.before.before in
-      let c16 = c12.before.before.before.before in
-      let c17 = c16.before in
-      let c18 = c17.before in
-      let c19 = c18.before in
-      let c22 = c19.before.before.before in
-      resim (λ v z A. either_yes (lent c22.args.recs.now c22.args.notes.now) v c22.args.r _ _ _ A (eq-eqb _ 1 (sym c19.detail.ensures ∙ c18.if1.false)))
+      let c4 = c.before.before.before.before in
+      let c10 = c4.before.before.before.before.before.before in
+      let c17 = c10.before.before.before.before.before.before.before in
+      let c21 = c17.before.before.before.before in
+      let c22 = c21.before in
+      let c23 = c22.before in
+      let c24 = c23.before in
+      let c28 = c24.before.before.before.before in
+      resim (λ v z A. either_yes (lent c28.args.recs.now c28.args.notes.now) v c28.args.r _ _ _ A (eq-eqb _ 1 (sym c24.detail.ensures ∙ c23.if1.false)))
       (record {
         sim = λ z v o₀ A h.
-            let h1 = visited z Expr (next_of c22.args.recs.now c16.next.ensures c17.first2.ensures) c12.expr2.ensures h in
-            let h2 = used z c22.args.r 0 Set c17.first2.ensures c7.store.ensures h1 in
-            nulled c22.args.r c2.push-null.ensures h2;
+            let h1 = visited z Expr (next_of c28.args.recs.now c21.next.ensures c22.first2.ensures) c17.expr2.ensures h in
+            let h2 = used z c28.args.r 0 Set c22.first2.ensures c10.store.ensures h1 in
+            nulled c28.args.r c4.push-null.ensures h2;
       })
 
   pub closed : {M : Type 1} → lts.Closed (calls t) (func_at t) func.Post M
-  closed = lts.spec (calls t) (func_at t) func.Post detail_requires first_requires expr_requires same_length returns first_requires_2 next_requires
-      expr_requires_2 store_requires push_null_requires same_length_2 returns_2
+  closed = lts.spec (calls t) (func_at t) func.Post detail_requires first_requires expr_requires same_length same_length_2 returns first_requires_2
+      next_requires expr_requires_2 store_requires push_null_requires same_length_3 same_length_4 returns_2

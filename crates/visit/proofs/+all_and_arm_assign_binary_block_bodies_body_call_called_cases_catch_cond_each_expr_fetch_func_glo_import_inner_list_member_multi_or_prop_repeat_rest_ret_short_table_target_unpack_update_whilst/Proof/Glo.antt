@@ -46,8 +46,8 @@ module _ (t : ℕ) where
   expr_requires c κs =
       let c3 = c.before.before.before in
       let c4 = c3.before in
-      let c7 = c4.before.before.before in (
-        falls_to (size c7.args.recs.now) c7.args.r _ 12 7 t c7.requires.0 (lit< tt) (child2 c7.args.recs.now c3.next.ensures (child1 c7.args.recs.now c4.first.ensures)),
+      let c8 = c4.before.before.before.before in (
+        falls_to (size c8.args.recs.now) c8.args.r _ 12 7 t c8.requires.0 (lit< tt) (child2 c8.args.recs.now c3.next.ensures (child1 c8.args.recs.now c4.first.ensures)),
         tt,
       )
 
@@ -61,26 +61,32 @@ module _ (t : ℕ) where
 
   same_length : lts.Need-same-length (calls t) (glo_at t) glo.Post
   same_length c =
-      let c2 = c.before.before in
-      let c7 = c2.before.before.before.before.before in
-      let c12 = c7.before.before.before.before.before in
-      c2.push-null.auto.0 ∙ c7.store.auto.1.0 ∙ c12.expr.auto.1.1.0
+      let c4 = c.before.before.before.before in
+      let c10 = c4.before.before.before.before.before.before in
+      let c17 = c10.before.before.before.before.before.before.before in
+      c4.push-null.auto.1.0 ∙ c10.store.auto.1.0 ∙ c17.expr.auto.1.1.0
+
+  same_length_2 : lts.Need-same-length-2 (calls t) (glo_at t) glo.Post
+  same_length_2 c =
+      let c4 = c.before.before.before.before in
+      let c17 = c4.before.before.before.before.before.before.before.before.before.before.before.before.before in
+      c4.push-null.auto.1.1.0 ∙ c17.expr.auto.1.1.1.0
 
   returns : lts.Need-returns (calls t) (glo_at t) glo.Post
   unfolding does doing exec
   returns c =
-      let c2 = c.before.before in
-      let c7 = c2.before.before.before.before.before in
-      let c12 = c7.before.before.before.before.before in
-      let c16 = c12.before.before.before.before in
-      let c17 = c16.before in
-      let c20 = c17.before.before.before in
+      let c4 = c.before.before.before.before in
+      let c10 = c4.before.before.before.before.before.before in
+      let c17 = c10.before.before.before.before.before.before.before in
+      let c21 = c17.before.before.before.before in
+      let c22 = c21.before in
+      let c26 = c22.before.before.before.before in
       record {
         sim = λ z v o₀ A h.
-            let h1 = visited z Expr (next_of c20.args.recs.now c16.next.ensures c17.first.ensures) c12.expr.ensures h in
-            let h2 = used z c20.args.r 0 Set c17.first.ensures c7.store.ensures h1 in
-            nulled c20.args.r c2.push-null.ensures h2;
+            let h1 = visited z Expr (next_of c26.args.recs.now c21.next.ensures c22.first.ensures) c17.expr.ensures h in
+            let h2 = used z c26.args.r 0 Set c22.first.ensures c10.store.ensures h1 in
+            nulled c26.args.r c4.push-null.ensures h2;
       }
 
   pub closed : {M : Type 1} → lts.Closed (calls t) (glo_at t) glo.Post M
-  closed = lts.spec (calls t) (glo_at t) glo.Post first_requires next_requires expr_requires store_requires push_null_requires same_length returns
+  closed = lts.spec (calls t) (glo_at t) glo.Post first_requires next_requires expr_requires store_requires push_null_requires same_length same_length_2 returns

@@ -103,8 +103,8 @@ module _ (t : ℕ) where
       let c4 = c.before.before.before.before in
       let c5 = c4.before in
       let c6 = c5.before in
-      let c18 = c6.before.before.before.before.before.before.before.before.before.before.before.before in (
-        falls_to (size c18.args.recs.now) c18.args.r _ 13 7 t c18.requires.0 (lit< tt) (linked_nth c18.args.recs.now c18.args.r c5.p.result
+      let c21 = c6.before.before.before.before.before.before.before.before.before.before.before.before.before.before.before in (
+        falls_to (size c21.args.recs.now) c21.args.r _ 13 7 t c21.requires.0 (lit< tt) (linked_nth c21.args.recs.now c21.args.r c5.p.result
             c6.first.ensures c4.nth.ensures),
         tt,
       )
@@ -135,92 +135,111 @@ module _ (t : ℕ) where
 
   same_length : lts.Need-same-length (calls t) (import_at t) import.Post
   same_length c =
-      let c2 = c.before.before in
-      let c7 = c2.before.before.before.before.before in
-      let c12 = c7.before.before.before.before.before in
-      let c24 = c12.before.before.before.before.before.before.before.before.before.before.before.before in
-      c2.push-null.auto.0 ∙ c7.push-pop.auto.0 ∙ c12.all.auto.1.1.0 ∙ c24.push-import.auto.1.0
+      let c4 = c.before.before.before.before in
+      let c10 = c4.before.before.before.before.before.before in
+      let c17 = c10.before.before.before.before.before.before.before in
+      let c31 = c17.before.before.before.before.before.before.before.before.before.before.before.before.before.before in
+      c4.push-null.auto.1.0 ∙ c10.push-pop.auto.0 ∙ c17.all.auto.1.1.0 ∙ c31.push-import.auto.1.0
+
+  same_length_2 : lts.Need-same-length-2 (calls t) (import_at t) import.Post
+  same_length_2 c =
+      let c4 = c.before.before.before.before in
+      let c17 = c4.before.before.before.before.before.before.before.before.before.before.before.before.before in
+      let c31 = c17.before.before.before.before.before.before.before.before.before.before.before.before.before.before in
+      c4.push-null.auto.1.1.0 ∙ c17.all.auto.1.1.1.0 ∙ c31.push-import.auto.1.1.0
 
   returns : lts.Need-returns (calls t) (import_at t) import.Post
   unfolding does doing exec
   returns c =
-      let c2 = c.before.before in
-      let c7 = c2.before.before.before.before.before in
-      let c12 = c7.before.before.before.before.before in
-      let c13 = c12.before in
-      let c17 = c13.before.before.before.before in
+      let c4 = c.before.before.before.before in
+      let c10 = c4.before.before.before.before.before.before in
+      let c17 = c10.before.before.before.before.before.before.before in
       let c18 = c17.before in
-      let c19 = c18.before in
-      let c20 = c19.before in
-      let c21 = c20.before in
-      let c24 = c21.before.before.before in
+      let c22 = c18.before.before.before.before in
+      let c23 = c22.before in
+      let c24 = c23.before in
       let c25 = c24.before in
-      let c31 = c25.before.before.before.before.before.before in
+      let c26 = c25.before in
+      let c31 = c26.before.before.before.before.before in
+      let c32 = c31.before in
+      let c39 = c32.before.before.before.before.before.before.before in
       record {
         sim = λ z v o₀ A h.
-            let h1 = str_loaded c31.args.r Import (word c31.args.recs.now c31.args.r 3) c25.q.ensures refl c24.push-import.ensures h in
-            let q = (sym c21.detail.ensures ∙ c20.match.keys1) in
-            let h2 = through_at z ((c13.width.ensures ∙ ap (λ (x : ℕ). width (own_tree (forest c31.args.recs.now x))) (c17.nth.ensures ∙ ap₂ (nth c31.args.recs.now) c18.p.ensures c19.first.ensures)) ∙ sym (width_past c31.args.recs.now (word c31.args.recs.now c31.args.r
-            2) (first c31.args.recs.now c31.args.r))) (c17.nth.ensures ∙ ap₂ (nth c31.args.recs.now) c18.p.ensures c19.first.ensures)
-            c12.all.ensures h1 in
-            let h3 = said c31.args.r Pop 0 refl refl c7.push-pop.ensures h2 in
-            given (either_no (lent c31.args.recs.now c31.args.notes.now) v c31.args.r _ _ _ _ (le-ltb (word c31.args.recs.now c31.args.r
-            1) 2 (omega (arith, q))) ∙ either_yes (lent c31.args.recs.now c31.args.notes.now) v c31.args.r _ _ _ _ (eq-eqb _ 2 q) ∙ items_run
-            (lent c31.args.recs.now c31.args.notes.now) v c31.args.r _) (nulled c31.args.r c2.push-null.ensures h3);
-      }
-
-  same_length_2 : lts.Need-same-length-2 (calls t) (import_at t) import.Post
-  same_length_2 c =
-      let c2 = c.before.before in
-      let c7 = c2.before.before.before.before.before in
-      let c15 = c7.before.before.before.before.before.before.before.before in
-      c2.push-null2.auto.0 ∙ c7.simple.auto.1.1.0 ∙ c15.push-import.auto.1.0
-
-  returns_2 : lts.Need-returns-2 (calls t) (import_at t) import.Post
-  unfolding does doing exec
-  returns_2 c =
-      let c2 = c.before.before in
-      let c7 = c2.before.before.before.before.before in
-      let c10 = c7.before.before.before in
-      let c12 = c10.before.before in
-      let c15 = c12.before.before.before in
-      let c16 = c15.before in
-      let c22 = c16.before.before.before.before.before.before in
-      record {
-        sim = λ z v o₀ A h.
-            let h1 = str_loaded c22.args.r Import (word c22.args.recs.now c22.args.r 3) c16.q.ensures refl c15.push-import.ensures h in
-            let h2 = (c7.simple.ensures _).sim z v o₀ _ h1 in
-            given (either_yes (lent c22.args.recs.now c22.args.notes.now) v c22.args.r _ _ _ _ (lt-ltb _ 2 (subst (λ (d : ℕ). d < 2) c12.detail.ensures c10.if1.true)) ∙ simple_part (lent c22.args.recs.now c22.args.notes.now) v c22.args.r (word c22.args.recs.now
-            c22.args.r 2) _) (nulled c22.args.r c2.push-null2.ensures h2);
+            let h1 = str_loaded c39.args.r Import (word c39.args.recs.now c39.args.r 3) c32.q.ensures c31.push-import.ensures h in
+            let q = (sym c26.detail.ensures ∙ c25.match.keys1) in
+            let h2 = through_at z ((c18.width.ensures ∙ ap (λ (x : ℕ). width (own_tree (forest c39.args.recs.now x))) (c22.nth.ensures ∙ ap₂ (nth c39.args.recs.now) c23.p.ensures c24.first.ensures)) ∙ sym (width_past c39.args.recs.now (word c39.args.recs.now c39.args.r
+            2) (first c39.args.recs.now c39.args.r))) (c22.nth.ensures ∙ ap₂ (nth c39.args.recs.now) c23.p.ensures c24.first.ensures)
+            c17.all.ensures h1 in
+            let h3 = said c39.args.r Pop 0 refl refl c10.push-pop.ensures h2 in
+            given (either_no (lent c39.args.recs.now c39.args.notes.now) v c39.args.r _ _ _ _ (le-ltb (word c39.args.recs.now c39.args.r
+            1) 2 (omega (arith, q))) ∙ either_yes (lent c39.args.recs.now c39.args.notes.now) v c39.args.r _ _ _ _ (eq-eqb _ 2 q) ∙ items_run
+            (lent c39.args.recs.now c39.args.notes.now) v c39.args.r _) (nulled c39.args.r c4.push-null.ensures h3);
       }
 
   same_length_3 : lts.Need-same-length-3 (calls t) (import_at t) import.Post
   same_length_3 c =
-      let c2 = c.before.before in
-      let c7 = c2.before.before.before.before.before in
-      let c15 = c7.before.before.before.before.before.before.before.before in
-      c2.push-null3.auto.0 ∙ c7.push-import-glob.auto.0 ∙ c15.push-import.auto.1.0
+      let c4 = c.before.before.before.before in
+      let c10 = c4.before.before.before.before.before.before in
+      let c20 = c10.before.before.before.before.before.before.before.before.before.before in
+      c4.push-null2.auto.1.0 ∙ c10.simple.auto.1.1.0 ∙ c20.push-import.auto.1.0
+
+  same_length_4 : lts.Need-same-length-4 (calls t) (import_at t) import.Post
+  same_length_4 c =
+      let c4 = c.before.before.before.before in
+      let c20 = c4.before.before.before.before.before.before.before.before.before.before.before.before.before.before.before.before in
+      c4.push-null2.auto.1.1.0 ∙ c20.push-import.auto.1.1.0
+
+  returns_2 : lts.Need-returns-2 (calls t) (import_at t) import.Post
+  unfolding does doing exec
+  returns_2 c =
+      let c4 = c.before.before.before.before in
+      let c10 = c4.before.before.before.before.before.before in
+      let c13 = c10.before.before.before in
+      let c15 = c13.before.before in
+      let c20 = c15.before.before.before.before.before in
+      let c21 = c20.before in
+      let c28 = c21.before.before.before.before.before.before.before in
+      record {
+        sim = λ z v o₀ A h.
+            let h1 = str_loaded c28.args.r Import (word c28.args.recs.now c28.args.r 3) c21.q.ensures c20.push-import.ensures h in
+            let h2 = (c10.simple.ensures _).sim z v o₀ _ h1 in
+            given (either_yes (lent c28.args.recs.now c28.args.notes.now) v c28.args.r _ _ _ _ (lt-ltb _ 2 (subst (λ (d : ℕ). d < 2) c15.detail.ensures c13.if1.true)) ∙ simple_part (lent c28.args.recs.now c28.args.notes.now) v c28.args.r (word c28.args.recs.now
+            c28.args.r 2) _) (nulled c28.args.r c4.push-null2.ensures h2);
+      }
+
+  same_length_5 : lts.Need-same-length-5 (calls t) (import_at t) import.Post
+  same_length_5 c =
+      let c4 = c.before.before.before.before in
+      let c10 = c4.before.before.before.before.before.before in
+      let c20 = c10.before.before.before.before.before.before.before.before.before.before in
+      c4.push-null3.auto.1.0 ∙ c10.push-import-glob.auto.0 ∙ c20.push-import.auto.1.0
+
+  same_length_6 : lts.Need-same-length-6 (calls t) (import_at t) import.Post
+  same_length_6 c =
+      let c4 = c.before.before.before.before in
+      let c20 = c4.before.before.before.before.before.before.before.before.before.before.before.before.before.before.before.before in
+      c4.push-null3.auto.1.1.0 ∙ c20.push-import.auto.1.1.0
 
   returns_3 : lts.Need-returns-3 (calls t) (import_at t) import.Post
   unfolding does doing exec
   returns_3 c =
-      let c2 = c.before.before in
-      let c7 = c2.before.before.before.before.before in
-      let c10 = c7.before.before.before in
-      let c11 = c10.before in
-      let c12 = c11.before in
-      let c15 = c12.before.before.before in
-      let c16 = c15.before in
-      let c22 = c16.before.before.before.before.before.before in
+      let c4 = c.before.before.before.before in
+      let c10 = c4.before.before.before.before.before.before in
+      let c13 = c10.before.before.before in
+      let c14 = c13.before in
+      let c15 = c14.before in
+      let c20 = c15.before.before.before.before.before in
+      let c21 = c20.before in
+      let c28 = c21.before.before.before.before.before.before.before in
       record {
         sim = λ z v o₀ A h.
-            let h1 = str_loaded c22.args.r Import (word c22.args.recs.now c22.args.r 3) c16.q.ensures refl c15.push-import.ensures h in
-            let h2 = said c22.args.r ImportGlob 0 refl refl c7.push-import-glob.ensures h1 in
-            given (either_no (lent c22.args.recs.now c22.args.notes.now) v c22.args.r _ _ _ _ (le-ltb (word c22.args.recs.now c22.args.r
-            1) 2 (subst (λ (d : ℕ). 2 ≤ d) c12.detail.ensures c10.if1.false)) ∙ either_no (lent c22.args.recs.now c22.args.notes.now) v c22.args.r _ _ _ _ (ne_eqb _ 2 (λ e. c11.match.rest.1 (c12.detail.ensures ∙ e)))) (nulled c22.args.r c2.push-null3.ensures h2);
+            let h1 = str_loaded c28.args.r Import (word c28.args.recs.now c28.args.r 3) c21.q.ensures c20.push-import.ensures h in
+            let h2 = said c28.args.r ImportGlob 0 refl refl c10.push-import-glob.ensures h1 in
+            given (either_no (lent c28.args.recs.now c28.args.notes.now) v c28.args.r _ _ _ _ (le-ltb (word c28.args.recs.now c28.args.r
+            1) 2 (subst (λ (d : ℕ). 2 ≤ d) c15.detail.ensures c13.if1.false)) ∙ either_no (lent c28.args.recs.now c28.args.notes.now) v c28.args.r _ _ _ _ (ne_eqb _ 2 (λ e. c14.match.rest.1 (c15.detail.ensures ∙ e)))) (nulled c28.args.r c4.push-null3.ensures h2);
       }
 
   pub closed : {M : Type 1} → lts.Closed (calls t) (import_at t) import.Post M
   closed = lts.spec (calls t) (import_at t) import.Post q_requires push_import_requires detail_requires first_requires p_requires cast_nth nth_requires
       width_requires all_requires push_pop_requires push_null_requires simple_requires push_null_requires_2 push_import_glob_requires push_null_requires_3
-      same_length returns same_length_2 returns_2 same_length_3 returns_3
+      same_length same_length_2 returns same_length_3 same_length_4 returns_2 same_length_5 same_length_6 returns_3

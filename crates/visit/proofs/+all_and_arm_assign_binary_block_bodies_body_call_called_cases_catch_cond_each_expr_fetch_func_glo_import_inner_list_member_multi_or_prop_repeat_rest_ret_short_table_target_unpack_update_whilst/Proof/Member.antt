@@ -58,8 +58,8 @@ module _ (t : ℕ) where
   expr_requires : lts.Need-expr-requires (calls t) (member_at t) member.Post
   expr_requires c κs =
       let c4 = c.before.before.before.before in
-      let c7 = c4.before.before.before in
-      (falls_to (size c7.args.recs.now) c7.args.r _ 12 7 t c7.requires.0 (lit< tt) (child1 c7.args.recs.now c4.first.ensures), tt)
+      let c8 = c4.before.before.before.before in
+      (falls_to (size c8.args.recs.now) c8.args.r _ 12 7 t c8.requires.0 (lit< tt) (child1 c8.args.recs.now c4.first.ensures), tt)
 
   is_unlabelled_requires : lts.Need-is-unlabelled-requires (calls t) (member_at t) member.Post
   is_unlabelled_requires c κs =
@@ -67,8 +67,8 @@ module _ (t : ℕ) where
 
   prop_requires : lts.Need-prop-requires (calls t) (member_at t) member.Post
   prop_requires c κs =
-      let c16 = c.before.before.before.before.before.before.before.before.before.before.before.before.before.before.before.before in
-      (falls_rank2 (size c16.args.recs.now) c16.args.r 6 8 t c16.requires.0 (lit< tt), tt)
+      let c19 = c.before.before.before.before.before.before.before.before.before.before.before.before.before.before.before.before.before.before.before in
+      (falls_rank2 (size c19.args.recs.now) c19.args.r 6 8 t c19.pre.0 (lit< tt), tt)
 
   push_get_requires : lts.Need-push-get-requires (calls t) (member_at t) member.Post
   push_get_requires c κs =
@@ -77,27 +77,33 @@ module _ (t : ℕ) where
   same_length : lts.Need-same-length (calls t) (member_at t) member.Post
   same_length c =
       let c2 = c.before.before in
-      let c7 = c2.before.before.before.before.before in
-      let c16 = c7.before.before.before.before.before.before.before.before.before in
-      c2.push-get.auto.0 ∙ c7.prop.auto.1.1.0 ∙ c16.expr.auto.1.1.0
+      let c9 = c2.before.before.before.before.before.before.before in
+      let c20 = c9.before.before.before.before.before.before.before.before.before.before.before in
+      c2.push-get.auto.0 ∙ c9.prop.auto.1.1.0 ∙ c20.expr.auto.1.1.0
+
+  same_length_2 : lts.Need-same-length-2 (calls t) (member_at t) member.Post
+  same_length_2 c =
+      let c9 = c.before.before.before.before.before.before.before.before.before in
+      let c20 = c9.before.before.before.before.before.before.before.before.before.before.before in
+      c9.prop.auto.1.1.1.0 ∙ c20.expr.auto.1.1.1.0
 
   returns : lts.Need-returns (calls t) (member_at t) member.Post
   returns c =
       let c2 = c.before.before in
-      let c7 = c2.before.before.before.before.before in
-      let c11 = c7.before.before.before.before in
-      let c12 = c11.before in
-      let c16 = c12.before.before.before.before in
-      let c20 = c16.before.before.before.before in
-      let c21 = c20.before in
-      let c24 = c21.before.before.before in
+      let c9 = c2.before.before.before.before.before.before.before in
+      let c13 = c9.before.before.before.before in
+      let c14 = c13.before in
+      let c20 = c14.before.before.before.before.before.before in
+      let c24 = c20.before.before.before.before in
+      let c25 = c24.before in
+      let c29 = c25.before.before.before.before in
       record {
         sim = λ z v o₀ A h.
-            let h1 = visited z Expr c21.first.ensures c16.expr.ensures h in
-            let t = label_test (word c24.args.recs.now c24.args.r 1) h1 c12.is-unlabelled.ensures in
-            let p = propped z c24.args.r (word c24.args.recs.now c24.args.r 1 % 8) c20.property-of.ensures c7.prop.ensures h1 in
-            let g = got c24.args.r (word c24.args.recs.now c24.args.r 1 % 8) c20.property-of.ensures c2.push-get.ensures p in
-            given (member_bare (lent c24.args.recs.now c24.args.notes.now) v c24.args.r (t ∙ c11.if1.true) A) (g);
+            let h1 = visited z Expr c25.first.ensures c20.expr.ensures h in
+            let t = label_test (word c29.args.recs.now c29.args.r 1) h1 c14.is-unlabelled.ensures in
+            let p = propped z c29.args.r (word c29.args.recs.now c29.args.r 1 % 8) c24.property-of.ensures c9.prop.ensures h1 in
+            let g = got c29.args.r (word c29.args.recs.now c29.args.r 1 % 8) c24.property-of.ensures c2.push-get.ensures p in
+            given (member_bare (lent c29.args.recs.now c29.args.notes.now) v c29.args.r (t ∙ c13.if1.true) A) (g);
       }
 
   get_label_requires : lts.Need-get-label-requires (calls t) (member_at t) member.Post
@@ -110,8 +116,8 @@ module _ (t : ℕ) where
 
   prop_requires_2 : lts.Need-prop-requires-2 (calls t) (member_at t) member.Post
   prop_requires_2 c κs =
-      let c23 = c.before.before.before.before.before.before.before.before.before.before.before.before.before.before.before.before.before.before.before.before.before.before.before in
-      (falls_rank2 (size c23.args.recs.now) c23.args.r 6 8 t c23.pre.0 (lit< tt), tt)
+      let c26 = c.before.before.before.before.before.before.before.before.before.before.before.before.before.before.before.before.before.before.before.before.before.before.before.before.before.before in
+      (falls_rank2 (size c26.args.recs.now) c26.args.r 6 8 t c26.pre.0 (lit< tt), tt)
 
   push_get_requires_2 : lts.Need-push-get-requires-2 (calls t) (member_at t) member.Post
   push_get_requires_2 c κs =
@@ -121,42 +127,48 @@ module _ (t : ℕ) where
   push_label_requires c κs =
       tt
 
-  same_length_2 : lts.Need-same-length-2 (calls t) (member_at t) member.Post
-  same_length_2 c =
+  same_length_3 : lts.Need-same-length-3 (calls t) (member_at t) member.Post
+  same_length_3 c =
       let c2 = c.before.before in
       let c7 = c2.before.before.before.before.before in
-      let c12 = c7.before.before.before.before.before in
-      let c18 = c12.before.before.before.before.before.before in
-      let c28 = c18.before.before.before.before.before.before.before.before.before.before in
-      c2.push-label.auto.0 ∙ c7.push-get2.auto.0 ∙ c12.prop2.auto.1.1.0 ∙ c18.push-safe-jump.auto.1.0 ∙ c28.expr.auto.1.1.0
+      let c14 = c7.before.before.before.before.before.before.before in
+      let c20 = c14.before.before.before.before.before.before in
+      let c32 = c20.before.before.before.before.before.before.before.before.before.before.before.before in
+      c2.push-label.auto.0 ∙ c7.push-get2.auto.0 ∙ c14.prop2.auto.1.1.0 ∙ c20.push-safe-jump.auto.1.0 ∙ c32.expr.auto.1.1.0
+
+  same_length_4 : lts.Need-same-length-4 (calls t) (member_at t) member.Post
+  same_length_4 c =
+      let c14 = c.before.before.before.before.before.before.before.before.before.before.before.before.before.before in
+      let c32 = c14.before.before.before.before.before.before.before.before.before.before.before.before.before.before.before.before.before.before in
+      c14.prop2.auto.1.1.1.0 ∙ c32.expr.kept.1.1.1.0
 
   returns_2 : lts.Need-returns-2 (calls t) (member_at t) member.Post
   returns_2 c =
       let c2 = c.before.before in
       let c7 = c2.before.before.before.before.before in
-      let c12 = c7.before.before.before.before.before in
-      let c18 = c12.before.before.before.before.before.before in
-      let c21 = c18.before.before.before in
-      let c23 = c21.before.before in
-      let c24 = c23.before in
-      let c28 = c24.before.before.before.before in
-      let c32 = c28.before.before.before.before in
-      let c33 = c32.before in
-      let c36 = c33.before.before.before in
+      let c14 = c7.before.before.before.before.before.before.before in
+      let c20 = c14.before.before.before.before.before.before in
+      let c23 = c20.before.before.before in
+      let c25 = c23.before.before in
+      let c26 = c25.before in
+      let c32 = c26.before.before.before.before.before.before in
+      let c36 = c32.before.before.before.before in
+      let c37 = c36.before in
+      let c41 = c37.before.before.before.before in
       record {
         sim = λ z v o₀ A h.
-            let h1 = visited z Expr c33.first.ensures c28.expr.ensures h in
-            let t = label_test (word c36.args.recs.now c36.args.r 1) h1 c24.is-unlabelled.ensures in
-            let l = label c21.get_label.ensures h1 in
-            let h2 = labelled c21.get_label.ensures h1 in
-            let h3 = (c18.push-safe-jump.ensures.moves _ _ l).moves v o₀ _ h2 in
-            let p = propped z c36.args.r (word c36.args.recs.now c36.args.r 1 % 8) c32.property-of.ensures c12.prop2.ensures h3 in
-            let g = got c36.args.r (word c36.args.recs.now c36.args.r 1 % 8) c32.property-of.ensures c7.push-get2.ensures p in
+            let h1 = visited z Expr c37.first.ensures c32.expr.ensures h in
+            let t = label_test (word c41.args.recs.now c41.args.r 1) h1 c26.is-unlabelled.ensures in
+            let l = label c23.get_label.ensures h1 in
+            let h2 = labelled c23.get_label.ensures h1 in
+            let h3 = (c20.push-safe-jump.ensures.moves _ _ l).moves v o₀ _ h2 in
+            let p = propped z c41.args.r (word c41.args.recs.now c41.args.r 1 % 8) c36.property-of.ensures c14.prop2.ensures h3 in
+            let g = got c41.args.r (word c41.args.recs.now c41.args.r 1 % 8) c36.property-of.ensures c7.push-get2.ensures p in
             let q = g in
-            given (member_run (lent c36.args.recs.now c36.args.notes.now) v c36.args.r (t ∙ c23.if1.false) A) (placed c36.args.r _ refl l c2.push-label.ensures q);
+            given (member_run (lent c41.args.recs.now c41.args.notes.now) v c41.args.r (t ∙ c25.if1.false) A) (placed c41.args.r _ refl l c2.push-label.ensures q);
       }
 
   pub closed : {M : Type 1} → lts.Closed (calls t) (member_at t) member.Post M
   closed = lts.spec (calls t) (member_at t) member.Post first_requires property_of_requires expr_requires is_unlabelled_requires prop_requires
-      push_get_requires same_length returns get_label_requires push_safe_jump_requires prop_requires_2 push_get_requires_2 push_label_requires same_length_2
-      returns_2
+      push_get_requires same_length same_length_2 returns get_label_requires push_safe_jump_requires prop_requires_2 push_get_requires_2 push_label_requires
+      same_length_3 same_length_4 returns_2

@@ -95,12 +95,12 @@ module _ (t : ℕ) where
       let c3 = c2.before in
       let c4 = c3.before in
       let c5 = c4.before in
-      let c8 = c5.before.before.before in
-      resim (λ v z A. multi_no (lent c8.args.recs.now c8.args.notes.now) v c8.args.r (λ e. c2.if1.true (ap (λ (n : ℕ). n + n) c4.p.ensures
-      ∙ e ∙ sym (c3.width.ensures ∙ ap (λ (x : ℕ). width (own_tree (forest c8.args.recs.now x))) c5.first.ensures))) A)
+      let c9 = c5.before.before.before.before in
+      resim (λ v z A. multi_no (lent c9.args.recs.now c9.args.notes.now) v c9.args.r (λ e. c2.if1.true (ap (λ (n : ℕ). n + n) c4.p.ensures
+      ∙ e ∙ sym (c3.width.ensures ∙ ap (λ (x : ℕ). width (own_tree (forest c9.args.recs.now x))) c5.first.ensures))) A)
       (record {
         sim = λ z v o₀ A h.
-            halted (Refused Lengths c8.args.r) c.refuse.ensures h;
+            halted (Refused Lengths c9.args.r) c.refuse.ensures h;
       })
 
   nth_requires : lts.Need-nth-requires (calls t) (multi_at t) multi.Post Inv-loop μ-loop
@@ -112,8 +112,8 @@ module _ (t : ℕ) where
       let c3 = c.before.before.before in
       let c6 = c3.before.before.before in
       let c7 = c6.before in
-      let c10 = c7.before.before.before in (
-        falls_to (size c10.args.recs.now) c10.args.r _ 13 8 t c10.requires.0 (lit< tt) (linked_nth c10.args.recs.now c10.args.r c6.p.result
+      let c11 = c7.before.before.before.before in (
+        falls_to (size c11.args.recs.now) c11.args.r _ 13 8 t c11.requires.0 (lit< tt) (linked_nth c11.args.recs.now c11.args.r c6.p.result
             c7.first.ensures c3.nth.ensures),
         tt,
       )
@@ -129,41 +129,47 @@ module _ (t : ℕ) where
   loop_holds : lts.Need-loop-init (calls t) (multi_at t) multi.Post Inv-loop μ-loop
   loop_holds c =
       let c1 = c.before in
-      let c9 = c1.before.before.before.before.before.before.before.before in
-      let c10 = c9.before in
-      let c12 = c10.before.before in
-      let c15 = c12.before.before.before in
-      downing_start (lent c15.args.recs.now c15.args.notes.now) c15.args.r _ _ _ _ (let q = c9.if1.false ∙ (c10.width.ensures ∙ ap (λ (x : ℕ).
-      width (own_tree (forest c15.args.recs.now x))) c12.first.ensures) in omega (arith, q)) c12.first.ensures c1.less.ensures c.nth2.ensures
+      let c11 = c1.before.before.before.before.before.before.before.before.before.before in
+      let c12 = c11.before in
+      let c14 = c12.before.before in
+      let c18 = c14.before.before.before.before in
+      downing_start (lent c18.args.recs.now c18.args.notes.now) c18.args.r _ _ _ _ (let q = c11.if1.false ∙ (c12.width.ensures ∙ ap (λ (x :
+      ℕ). width (own_tree (forest c18.args.recs.now x))) c14.first.ensures) in omega (arith, q)) c14.first.ensures c1.less.ensures c.nth2.ensures
 
   same_length : lts.Need-same-length (calls t) (multi_at t) multi.Post Inv-loop μ-loop
   same_length c =
       let c2 = c.before.before in
-      let c7 = c2.before.before.before.before.before in
-      c2.loop.invariant.long ∙ c7.all.auto.1.1.0
+      let c9 = c2.before.before.before.before.before.before.before in
+      c2.loop.invariant.sizes.0 ∙ c9.all.auto.1.1.0
+
+  same_length_2 : lts.Need-same-length-2 (calls t) (multi_at t) multi.Post Inv-loop μ-loop
+  same_length_2 c =
+      let c2 = c.before.before in
+      let c9 = c2.before.before.before.before.before.before.before in
+      c2.loop.invariant.sizes.1 ∙ c9.all.auto.1.1.1.0
 
   returns_2 : lts.Need-returns-2 (calls t) (multi_at t) multi.Post Inv-loop μ-loop
   returns_2 c =
       let c1 = c.before in
       let c2 = c1.before in
-      let c7 = c2.before.before.before.before.before in
-      let c11 = c7.before.before.before.before in
-      let c14 = c11.before.before.before in
-      let c15 = c14.before in
-      let c18 = c15.before.before.before in
+      let c9 = c2.before.before.before.before.before.before.before in
+      let c13 = c9.before.before.before.before in
+      let c16 = c13.before.before.before in
+      let c17 = c16.before in
+      let c21 = c17.before.before.before.before in
       record {
         sim = λ z v o₀ A h.
-            let h1 = through_at z c14.p.ensures (c11.nth.ensures ∙ ap₂ (nth c18.args.recs.now) c14.p.ensures c15.first.ensures) c7.all.ensures h in
-            (downing_never (lent c18.args.recs.now c18.args.notes.now) c18.args.r _ c2.loop.invariant c1.loop-test.true c.if2.true {f = λ w
-            B. does (lent c18.args.recs.now c18.args.notes.now) v c18.args.r (assign_multi_steps (words c18.args.recs.now c18.args.r)
-            (own_tree (children c18.args.recs.now c18.args.r))) A}).sim z v o₀ _ h1;
+            let h1 = through_at z c16.p.ensures (c13.nth.ensures ∙ ap₂ (nth c21.args.recs.now) c16.p.ensures c17.first.ensures) c9.all.ensures h in
+            (downing_never (lent c21.args.recs.now c21.args.notes.now) c21.args.r _ c2.loop.invariant c1.loop-test.true c.if2.true {f = λ w
+            B. does (lent c21.args.recs.now c21.args.notes.now) v c21.args.r (assign_multi_steps (words c21.args.recs.now c21.args.r)
+            (own_tree (children c21.args.recs.now c21.args.r))) A}).sim z v o₀ _ h1;
       }
 
   target_requires : lts.Need-target-requires (calls t) (multi_at t) multi.Post Inv-loop μ-loop
   target_requires c κs =
       let c3 = c.before.before.before in
-      let c21 = c3.before.before.before.before.before.before.before.before.before.before.before.before.before.before.before.before.before.before in
-      (falls_past (size c21.args.recs.now) c21.args.r _ t c21.pre.0 c3.if2.false, tt)
+      let c24 = c3.before.before.before.before.before.before.before.before.before.before.before.before.before.before.before.before.before.before.before.before.before in
+      (falls_past (size c24.args.recs.now) c24.args.r _ t c24.pre.0 c3.if2.false, tt)
 
   earlier_requires : lts.Need-earlier-requires (calls t) (multi_at t) multi.Post Inv-loop μ-loop
   earlier_requires c κs =
@@ -171,55 +177,62 @@ module _ (t : ℕ) where
 
   sub_i : lts.Need-overflow-sub-i (calls t) (multi_at t) multi.Post Inv-loop μ-loop
   sub_i c =
-      let c8 = c.before.before.before.before.before.before.before.before in
-      let g = c8.loop-test.true in search rules
+      let c10 = c.before.before.before.before.before.before.before.before.before.before in
+      let g = c10.loop-test.true in search rules
 
   loop_less : lts.Need-loop-smaller (calls t) (multi_at t) multi.Post Inv-loop μ-loop
   loop_less c =
-      let c8 = c.before.before.before.before.before.before.before.before in
-      omega (arith, c8.loop-test.true)
+      let c10 = c.before.before.before.before.before.before.before.before.before.before in
+      omega (arith, c10.loop-test.true)
 
   loop_again : lts.Need-loop-preserved (calls t) (multi_at t) multi.Post Inv-loop μ-loop
   loop_again c =
-      let c3 = c.before.before.before in
-      let c8 = c3.before.before.before.before.before in
-      let c9 = c8.before in
-      let c25 = c9.before.before.before.before.before.before.before.before.before.before.before.before.before.before.before.before in
-      downing_again (lent c25.args.recs.now c25.args.notes.now) c25.args.r _ c9.loop.invariant c8.loop-test.true c.earlier.ensures refl
-      c3.target.ensures c3.target.auto.1.1.0
+      let c5 = c.before.before.before.before.before in
+      let c10 = c5.before.before.before.before.before in
+      let c11 = c10.before in
+      let c30 = c11.before.before.before.before.before.before.before.before.before.before.before.before.before.before.before.before.before.before.before in
+      downing_again (lent c30.args.recs.now c30.args.notes.now) c30.args.r _ c11.loop.invariant c10.loop-test.true c.earlier.ensures refl
+      c5.target.ensures c5.target.auto.1.1.0 c5.target.auto.1.1.1.0
 
   push_null_requires : lts.Need-push-null-requires (calls t) (multi_at t) multi.Post Inv-loop μ-loop
   push_null_requires c κs =
       tt
 
-  same_length_2 : lts.Need-same-length-2 (calls t) (multi_at t) multi.Post Inv-loop μ-loop
-  same_length_2 c =
-      let c2 = c.before.before in
-      let c6 = c2.before.before.before.before in
-      let c11 = c6.before.before.before.before.before in
-      c2.push-null.auto.0 ∙ c6.loop.invariant.long ∙ c11.all.auto.1.1.0
+  same_length_3 : lts.Need-same-length-3 (calls t) (multi_at t) multi.Post Inv-loop μ-loop
+  same_length_3 c =
+      let c4 = c.before.before.before.before in
+      let c9 = c4.before.before.before.before.before in
+      let c16 = c9.before.before.before.before.before.before.before in
+      c4.push-null.auto.1.0 ∙ c9.loop.invariant.sizes.0 ∙ c16.all.auto.1.1.0
+
+  same_length_4 : lts.Need-same-length-4 (calls t) (multi_at t) multi.Post Inv-loop μ-loop
+  same_length_4 c =
+      let c4 = c.before.before.before.before in
+      let c9 = c4.before.before.before.before.before in
+      let c16 = c9.before.before.before.before.before.before.before in
+      c4.push-null.auto.1.1.0 ∙ c9.loop.invariant.sizes.1 ∙ c16.all.auto.1.1.1.0
 
   returns_3 : lts.Need-returns-3 (calls t) (multi_at t) multi.Post Inv-loop μ-loop
   returns_3 c =
-      let c2 = c.before.before in
-      let c5 = c2.before.before.before in
-      let c6 = c5.before in
-      let c11 = c6.before.before.before.before.before in
-      let c15 = c11.before.before.before.before in
-      let c16 = c15.before in
-      let c17 = c16.before in
-      let c18 = c17.before in
-      let c19 = c18.before in
-      let c22 = c19.before.before.before in
+      let c4 = c.before.before.before.before in
+      let c8 = c4.before.before.before.before in
+      let c9 = c8.before in
+      let c16 = c9.before.before.before.before.before.before.before in
+      let c20 = c16.before.before.before.before in
+      let c21 = c20.before in
+      let c22 = c21.before in
+      let c23 = c22.before in
+      let c24 = c23.before in
+      let c28 = c24.before.before.before.before in
       record {
         sim = λ z v o₀ A h.
-            let h1 = through_at z c18.p.ensures (c15.nth.ensures ∙ ap₂ (nth c22.args.recs.now) c18.p.ensures c19.first.ensures) c11.all.ensures h in
-            let h2 = (downing_end (lent c22.args.recs.now c22.args.notes.now) c22.args.r _ c6.loop.invariant c5.loop-test.false).sim z v o₀ _ h1 in
-            given (multi_yes (lent c22.args.recs.now c22.args.notes.now) v c22.args.r c18.p.ensures (ap (λ (n : ℕ). n + n) (sym c18.p.ensures) ∙ c16.if1.false ∙ (c17.width.ensures ∙ ap (λ (x : ℕ). width (own_tree (forest c22.args.recs.now x))) c19.first.ensures))
-            A) (nulled c22.args.r c2.push-null.ensures h2);
+            let h1 = through_at z c23.p.ensures (c20.nth.ensures ∙ ap₂ (nth c28.args.recs.now) c23.p.ensures c24.first.ensures) c16.all.ensures h in
+            let h2 = (downing_end (lent c28.args.recs.now c28.args.notes.now) c28.args.r _ c9.loop.invariant c8.loop-test.false).sim z v o₀ _ h1 in
+            given (multi_yes (lent c28.args.recs.now c28.args.notes.now) v c28.args.r c23.p.ensures (ap (λ (n : ℕ). n + n) (sym c23.p.ensures) ∙ c21.if1.false ∙ (c22.width.ensures ∙ ap (λ (x : ℕ). width (own_tree (forest c28.args.recs.now x))) c24.first.ensures))
+            A) (nulled c28.args.r c4.push-null.ensures h2);
       }
 
   pub closed : {M : Type 1} → lts.Closed (calls t) (multi_at t) multi.Post M
   closed = lts.spec (calls t) (multi_at t) multi.Post Inv-loop μ-loop first_requires p_requires cast_n add_if1 width_requires refuse_requires returns
-      nth_requires all_requires less_requires nth_requires_2 loop_holds same_length returns_2 target_requires earlier_requires sub_i loop_less loop_again
-      push_null_requires same_length_2 returns_3
+      nth_requires all_requires less_requires nth_requires_2 loop_holds same_length same_length_2 returns_2 target_requires earlier_requires sub_i loop_less
+      loop_again push_null_requires same_length_3 same_length_4 returns_3

@@ -54,8 +54,8 @@ module _ (t : ℕ) where
   expr_requires : lts.Need-expr-requires (calls t) (or_at t) or.Post
   expr_requires c κs =
       let c6 = c.before.before.before.before.before.before in
-      let c9 = c6.before.before.before in
-      (falls_to (size c9.args.recs.now) c9.args.r _ 12 5 t c9.requires.0 (lit< tt) (child1 c9.args.recs.now c6.first.ensures), tt)
+      let c10 = c6.before.before.before.before in
+      (falls_to (size c10.args.recs.now) c10.args.r _ 12 5 t c10.requires.0 (lit< tt) (child1 c10.args.recs.now c6.first.ensures), tt)
 
   push_jump_if_true_or_pop_requires : lts.Need-push-jump-if-true-or-pop-requires (calls t) (or_at t) or.Post
   push_jump_if_true_or_pop_requires c κs =
@@ -63,10 +63,10 @@ module _ (t : ℕ) where
 
   expr_requires_2 : lts.Need-expr-requires-2 (calls t) (or_at t) or.Post
   expr_requires_2 c κs =
-      let c16 = c.before.before.before.before.before.before.before.before.before.before.before.before.before.before.before.before in
-      let c17 = c16.before in
-      let c20 = c17.before.before.before in (
-        falls_to (size c20.args.recs.now) c20.args.r _ 12 5 t c20.requires.0 (lit< tt) (child2 c20.args.recs.now c16.next.ensures (child1 c20.args.recs.now c17.first.ensures)),
+      let c18 = c.before.before.before.before.before.before.before.before.before.before.before.before.before.before.before.before.before.before in
+      let c19 = c18.before in
+      let c23 = c19.before.before.before.before in (
+        falls_to (size c23.args.recs.now) c23.args.r _ 12 5 t c23.pre.0 (lit< tt) (child2 c23.args.recs.now c18.next.ensures (child1 c23.args.recs.now c19.first.ensures)),
         tt,
       )
 
@@ -77,32 +77,38 @@ module _ (t : ℕ) where
   same_length : lts.Need-same-length (calls t) (or_at t) or.Post
   same_length c =
       let c2 = c.before.before in
-      let c7 = c2.before.before.before.before.before in
-      let c13 = c7.before.before.before.before.before.before in
-      let c18 = c13.before.before.before.before.before in
-      c2.push-label.auto.0 ∙ c7.expr2.auto.1.1.0 ∙ c13.push-jump-if-true-or-pop.auto.0 ∙ c18.expr.auto.1.1.0
+      let c9 = c2.before.before.before.before.before.before.before in
+      let c15 = c9.before.before.before.before.before.before in
+      let c22 = c15.before.before.before.before.before.before.before in
+      c2.push-label.auto.0 ∙ c9.expr2.auto.1.1.0 ∙ c15.push-jump-if-true-or-pop.auto.0 ∙ c22.expr.auto.1.1.0
+
+  same_length_2 : lts.Need-same-length-2 (calls t) (or_at t) or.Post
+  same_length_2 c =
+      let c9 = c.before.before.before.before.before.before.before.before.before in
+      let c22 = c9.before.before.before.before.before.before.before.before.before.before.before.before.before in
+      c9.expr2.auto.1.1.1.0 ∙ c22.expr.auto.1.1.1.0
 
   returns : lts.Need-returns (calls t) (or_at t) or.Post
   unfolding does doing exec
   returns c =
       let c2 = c.before.before in
-      let c7 = c2.before.before.before.before.before in
-      let c13 = c7.before.before.before.before.before.before in
-      let c18 = c13.before.before.before.before.before in
-      let c22 = c18.before.before.before.before in
-      let c24 = c22.before.before in
-      let c25 = c24.before in
-      let c28 = c25.before.before.before in
+      let c9 = c2.before.before.before.before.before.before.before in
+      let c15 = c9.before.before.before.before.before.before in
+      let c22 = c15.before.before.before.before.before.before.before in
+      let c26 = c22.before.before.before.before in
+      let c28 = c26.before.before in
+      let c29 = c28.before in
+      let c33 = c29.before.before.before.before in
       record {
         sim = λ z v o₀ A h.
-            let l = label c22.get_label.ensures h in
-            let h1 = labelled c22.get_label.ensures h in
-            let h2 = visited z Expr c25.first.ensures c18.expr.ensures h1 in
-            let h3 = jumped c28.args.r JumpIfTrueOrPop _ refl l c13.push-jump-if-true-or-pop.ensures h2 in
-            let h4 = visited z Expr (next_of c28.args.recs.now c24.next.ensures c25.first.ensures) c7.expr2.ensures h3 in
-            placed c28.args.r _ refl l c2.push-label.ensures h4;
+            let l = label c26.get_label.ensures h in
+            let h1 = labelled c26.get_label.ensures h in
+            let h2 = visited z Expr c29.first.ensures c22.expr.ensures h1 in
+            let h3 = jumped c33.args.r JumpIfTrueOrPop _ refl l c15.push-jump-if-true-or-pop.ensures h2 in
+            let h4 = visited z Expr (next_of c33.args.recs.now c28.next.ensures c29.first.ensures) c9.expr2.ensures h3 in
+            placed c33.args.r _ refl l c2.push-label.ensures h4;
       }
 
   pub closed : {M : Type 1} → lts.Closed (calls t) (or_at t) or.Post M
   closed = lts.spec (calls t) (or_at t) or.Post first_requires next_requires get_label_requires expr_requires push_jump_if_true_or_pop_requires expr_requires_2
-      push_label_requires same_length returns
+      push_label_requires same_length same_length_2 returns

@@ -13,7 +13,7 @@ use mathlib.Core.Logic.{◌⊎◌}
 use borrow.Author.Rules.{rules}
 use lib.Dec.{lit<}
 use borrow.Author.Tests.{eq-eqb, ne_eqb, lt-ltb, le-ltb}
-use Rattle.tables.specs.Record.{words, size}
+use Rattle.tables.specs.Record.{size}
 use Rattle.tables.specs.Forest.{first, next, children, own_tree}
 use Rattle.pool.specs.Value.{child}
 use Rattle.rules.specs.Marker.{LoadConst}
@@ -22,7 +22,6 @@ use Rattle.rules.specs.Run.{number_of, exec}
 use Rattle.emit.specs.Rep.{lent}
 use Rattle.emit.specs.Does.{doing, does}
 use Rattle.emit.proofs.RepLaws.{resim, stay}
-use Rattle.emit.proofs.VisitLaws.{ident_number}
 use Rattle.plain.proofs.LeafLaws.{str_loaded}
 use Rattle.visit.proofs.FallLaws.{falls_to, child1, child2}
 use Rattle.visit.proofs.ArmLaws.{next_of, ident_at, visited, either_yes, either_no, member_tag, is_held, is_none}
@@ -59,8 +58,8 @@ module _ (t : ℕ) where
   expr_requires c κs =
       let c5 = c.before.before.before.before.before in
       let c6 = c5.before in
-      let c9 = c6.before.before.before in (
-        falls_to (size c9.args.recs.now) c9.args.r _ 12 5 t c9.requires.0 (lit< tt) (child2 c9.args.recs.now c5.next.ensures (child1 c9.args.recs.now c6.first.ensures)),
+      let c10 = c6.before.before.before.before in (
+        falls_to (size c10.args.recs.now) c10.args.r _ 12 5 t c10.requires.0 (lit< tt) (child2 c10.args.recs.now c5.next.ensures (child1 c10.args.recs.now c6.first.ensures)),
         tt,
       )
 
@@ -74,53 +73,62 @@ module _ (t : ℕ) where
 
   same_length : lts.Need-same-length (calls t) (prop_at t) prop.Post
   same_length c =
-      let c2 = c.before.before in
-      c2.expr.auto.1.1.0
+      let c4 = c.before.before.before.before in
+      c4.expr.auto.1.1.0
+
+  same_length_2 : lts.Need-same-length-2 (calls t) (prop_at t) prop.Post
+  same_length_2 c =
+      let c4 = c.before.before.before.before in
+      c4.expr.auto.1.1.1.0
 
   returns : lts.Need-returns (calls t) (prop_at t) prop.Post
   unfolding does doing exec
   returns c =
-      let c2 = c.before.before in
-      let c7 = c2.before.before.before.before.before in
-      let c8 = c7.before in
-      let c9 = c8.before in
-      let c12 = c9.before.before.before in
-      resim (λ v z A. either_yes (lent c12.args.recs.now c12.args.notes.now) v c12.args.r _ _ _ A (eq-eqb _ 0 (sym (member_tag c12.args.property) ∙ c7.match.keys1)))
+      let c4 = c.before.before.before.before in
+      let c9 = c4.before.before.before.before.before in
+      let c10 = c9.before in
+      let c11 = c10.before in
+      let c15 = c11.before.before.before.before in
+      resim (λ v z A. either_yes (lent c15.args.recs.now c15.args.notes.now) v c15.args.r _ _ _ A (eq-eqb _ 0 (sym (member_tag c15.args.property) ∙ c9.match.keys1)))
       (record {
         sim = λ z v o₀ A h.
-            visited z Expr (next_of c12.args.recs.now c8.next.ensures c9.first.ensures) c2.expr.ensures h;
+            visited z Expr (next_of c15.args.recs.now c10.next.ensures c11.first.ensures) c4.expr.ensures h;
       })
 
-  same_length_2 : lts.Need-same-length-2 (calls t) (prop_at t) prop.Post
-  same_length_2 c =
-      let c2 = c.before.before in
-      c2.push-load-const.auto.1.0
+  same_length_3 : lts.Need-same-length-3 (calls t) (prop_at t) prop.Post
+  same_length_3 c =
+      let c4 = c.before.before.before.before in
+      c4.push-load-const.auto.1.0
+
+  same_length_4 : lts.Need-same-length-4 (calls t) (prop_at t) prop.Post
+  same_length_4 c =
+      let c4 = c.before.before.before.before in
+      c4.push-load-const.auto.1.1.0
 
   returns_2 : lts.Need-returns-2 (calls t) (prop_at t) prop.Post
   unfolding does doing exec
   returns_2 c =
-      let c2 = c.before.before in
-      let c6 = c2.before.before.before.before in
-      let c7 = c6.before in
-      let c8 = c7.before in
+      let c4 = c.before.before.before.before in
+      let c8 = c4.before.before.before.before in
       let c9 = c8.before in
-      let c12 = c9.before.before.before in
-      resim (λ v z A. either_no (lent c12.args.recs.now c12.args.notes.now) v c12.args.r _ _ _ A (ne_eqb _ 0 (is_held (subst (λ (n : ℕ). (n ≡ 1)
-      ⊎ (n ≡ 2)) (member_tag c12.args.property) c7.match.keys2)).0) ∙ either_yes (lent c12.args.recs.now c12.args.notes.now) v c12.args.r _ _ _ A (lt-ltb _ 3 (is_held (subst (λ (n : ℕ). (n ≡ 1) ⊎ (n ≡ 2)) (member_tag c12.args.property) c7.match.keys2)).1))
+      let c10 = c9.before in
+      let c11 = c10.before in
+      let c15 = c11.before.before.before.before in
+      resim (λ v z A. either_no (lent c15.args.recs.now c15.args.notes.now) v c15.args.r _ _ _ A (ne_eqb _ 0 (is_held (subst (λ (n : ℕ). (n ≡ 1)
+      ⊎ (n ≡ 2)) (member_tag c15.args.property) c9.match.keys2)).0) ∙ either_yes (lent c15.args.recs.now c15.args.notes.now) v c15.args.r _ _ _ A (lt-ltb _ 3 (is_held (subst (λ (n : ℕ). (n ≡ 1) ⊎ (n ≡ 2)) (member_tag c15.args.property) c9.match.keys2)).1))
       (record {
         sim = λ z v o₀ A h.
-            str_loaded (number_of (ident_at c12.args.recs.now c12.args.r 1)) LoadConst (child (own_tree (children c12.args.recs.now c12.args.r)) 1).q (property_name c12.args.recs.now c12.args.r c9.first.ensures c8.next.ensures c6.name_of.ensures) (sym
-            (ident_number c12.args.recs.now c12.args.r (words c12.args.recs.now c12.args.r) 1 (next_of c12.args.recs.now c8.next.ensures c9.first.ensures))) c2.push-load-const.ensures h;
+            str_loaded (number_of (ident_at c15.args.recs.now c15.args.r 1)) LoadConst (child (own_tree (children c15.args.recs.now c15.args.r)) 1).q (property_name c15.args.recs.now c15.args.r c11.first.ensures c10.next.ensures c8.name_of.ensures) c4.push-load-const.ensures h;
       })
 
   returns_3 : lts.Need-returns-3 (calls t) (prop_at t) prop.Post
   unfolding does doing exec
   returns_3 c =
-      let c5 = c.before.before.before.before.before in
-      resim (λ v z A. either_no (lent c5.args.recs.now c5.args.notes.now) v c5.args.r _ _ _ A (ne_eqb _ 0 (is_none (subst (λ (n : ℕ). (n ≡ 3) ⊎
-      ((n ≡ 4) ⊎ (n ≡ 5))) (member_tag c5.args.property) c.match.keys3)).0) ∙ either_no (lent c5.args.recs.now c5.args.notes.now) v c5.args.r _ _ _ A (le-ltb _ 3 (is_none (subst (λ (n : ℕ). (n ≡ 3) ⊎ ((n ≡ 4) ⊎ (n ≡ 5))) (member_tag c5.args.property) c.match.keys3)).1))
+      let c6 = c.before.before.before.before.before.before in
+      resim (λ v z A. either_no (lent c6.args.recs.now c6.args.notes.now) v c6.args.r _ _ _ A (ne_eqb _ 0 (is_none (subst (λ (n : ℕ). (n ≡ 3) ⊎
+      ((n ≡ 4) ⊎ (n ≡ 5))) (member_tag c6.args.property) c.match.keys3)).0) ∙ either_no (lent c6.args.recs.now c6.args.notes.now) v c6.args.r _ _ _ A (le-ltb _ 3 (is_none (subst (λ (n : ℕ). (n ≡ 3) ⊎ ((n ≡ 4) ⊎ (n ≡ 5))) (member_tag c6.args.property) c.match.keys3)).1))
       stay
 
   pub closed : {M : Type 1} → lts.Closed (calls t) (prop_at t) prop.Post M
   closed = lts.spec (calls t) (prop_at t) prop.Post first_requires next_requires enum_told expr_requires name_of_requires push_load_const_requires same_length
-      returns same_length_2 returns_2 returns_3
+      same_length_2 returns same_length_3 same_length_4 returns_2 returns_3

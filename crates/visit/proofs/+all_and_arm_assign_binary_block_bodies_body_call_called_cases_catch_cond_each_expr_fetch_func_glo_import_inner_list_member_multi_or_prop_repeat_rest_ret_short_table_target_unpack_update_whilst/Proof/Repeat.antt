@@ -73,8 +73,8 @@ module _ (t : ℕ) where
   expr_requires : lts.Need-expr-requires (calls t) (repeat_at t) repeat.Post
   expr_requires c κs =
       let c14 = c.before.before.before.before.before.before.before.before.before.before.before.before.before.before in
-      let c17 = c14.before.before.before in
-      (falls_to (size c17.args.recs.now) c17.args.r _ 12 7 t c17.requires.0 (lit< tt) (child1 c17.args.recs.now c14.first.ensures), tt)
+      let c18 = c14.before.before.before.before in
+      (falls_to (size c18.args.recs.now) c18.args.r _ 12 7 t c18.requires.0 (lit< tt) (child1 c18.args.recs.now c14.first.ensures), tt)
 
   push_pop_requires : lts.Need-push-pop-requires (calls t) (repeat_at t) repeat.Post
   push_pop_requires c κs =
@@ -98,44 +98,50 @@ module _ (t : ℕ) where
 
   same_length : lts.Need-same-length (calls t) (repeat_at t) repeat.Post
   same_length c =
-      let c4 = c.before.before.before.before in
-      let c9 = c4.before.before.before.before.before in
-      let c14 = c9.before.before.before.before.before in
-      let c19 = c14.before.before.before.before.before in
-      let c24 = c19.before.before.before.before.before in
-      let c30 = c24.before.before.before.before.before.before in
-      c4.push-null.auto.0 ∙ c9.push-label2.auto.0 ∙ c14.push-jump-back-edge.auto.0 ∙ c19.push-pop.auto.0 ∙ c24.expr.auto.1.1.0 ∙ c30.push-label.auto.0
+      let c6 = c.before.before.before.before.before.before in
+      let c12 = c6.before.before.before.before.before.before in
+      let c17 = c12.before.before.before.before.before in
+      let c22 = c17.before.before.before.before.before in
+      let c29 = c22.before.before.before.before.before.before.before in
+      let c35 = c29.before.before.before.before.before.before in
+      c6.push-null.auto.1.0 ∙ c12.push-label2.auto.0 ∙ c17.push-jump-back-edge.auto.0 ∙ c22.push-pop.auto.0 ∙ c29.expr.auto.1.1.0 ∙ c35.push-label.auto.0
+
+  same_length_2 : lts.Need-same-length-2 (calls t) (repeat_at t) repeat.Post
+  same_length_2 c =
+      let c6 = c.before.before.before.before.before.before in
+      let c29 = c6.before.before.before.before.before.before.before.before.before.before.before.before.before.before.before.before.before.before.before.before.before.before.before in
+      c6.push-null.auto.1.1.0 ∙ c29.expr.kept.1.1.1.0
 
   returns : lts.Need-returns (calls t) (repeat_at t) repeat.Post
   unfolding does doing exec
   returns c =
-      let c4 = c.before.before.before.before in
-      let c9 = c4.before.before.before.before.before in
-      let c14 = c9.before.before.before.before.before in
-      let c19 = c14.before.before.before.before.before in
-      let c24 = c19.before.before.before.before.before in
-      let c30 = c24.before.before.before.before.before.before in
-      let c33 = c30.before.before.before in
-      let c35 = c33.before.before in
-      let c37 = c35.before.before in
-      let c39 = c37.before.before in
-      let c42 = c39.before.before.before in
+      let c6 = c.before.before.before.before.before.before in
+      let c12 = c6.before.before.before.before.before.before in
+      let c17 = c12.before.before.before.before.before in
+      let c22 = c17.before.before.before.before.before in
+      let c29 = c22.before.before.before.before.before.before.before in
+      let c35 = c29.before.before.before.before.before.before in
+      let c38 = c35.before.before.before in
+      let c40 = c38.before.before in
+      let c42 = c40.before.before in
+      let c44 = c42.before.before in
+      let c48 = c44.before.before.before.before in
       record {
         sim = λ z v o₀ A h.
-            let l = label c37.get_label.ensures h in
-            let h1 = labelled c37.get_label.ensures h in
-            let m = label c35.get-label2.ensures h1 in
-            let h2 = labelled c35.get-label2.ensures h1 in
-            let h3 = given (behind _ c42.args.r A) (begun c42.args.r _ _ _ l h2 c33.begin_loop.ensures) in
-            let h4 = placed c42.args.r _ refl l c30.push-label.ensures h3 in
-            let h5 = visited z Expr c39.first.ensures c24.expr.ensures h4 in
-            let i1 = said c42.args.r Pop 0 refl refl c19.push-pop.ensures h5 in
-            let i2 = backed c42.args.r _ refl l c14.push-jump-back-edge.ensures i1 in
-            let i3 = placed c42.args.r _ refl m c9.push-label2.ensures i2 in
-            let i4 = nulled c42.args.r c4.push-null.ensures i3 in
+            let l = label c42.get_label.ensures h in
+            let h1 = labelled c42.get_label.ensures h in
+            let m = label c40.get-label2.ensures h1 in
+            let h2 = labelled c40.get-label2.ensures h1 in
+            let h3 = given (behind _ c48.args.r A) (begun c48.args.r _ _ _ l h2 c38.begin_loop.ensures) in
+            let h4 = placed c48.args.r _ refl l c35.push-label.ensures h3 in
+            let h5 = visited z Expr c44.first.ensures c29.expr.ensures h4 in
+            let i1 = said c48.args.r Pop 0 refl refl c22.push-pop.ensures h5 in
+            let i2 = backed c48.args.r _ refl l c17.push-jump-back-edge.ensures i1 in
+            let i3 = placed c48.args.r _ refl m c12.push-label2.ensures i2 in
+            let i4 = nulled c48.args.r c6.push-null.ensures i3 in
             finished c.end_loop.ensures i4;
       }
 
   pub closed : {M : Type 1} → lts.Closed (calls t) (repeat_at t) repeat.Post M
   closed = lts.spec (calls t) (repeat_at t) repeat.Post first_requires get_label_requires get_label_requires_2 begin_loop_requires push_label_requires
-      expr_requires push_pop_requires push_jump_back_edge_requires push_label_requires_2 push_null_requires end_loop_requires same_length returns
+      expr_requires push_pop_requires push_jump_back_edge_requires push_label_requires_2 push_null_requires end_loop_requires same_length same_length_2 returns

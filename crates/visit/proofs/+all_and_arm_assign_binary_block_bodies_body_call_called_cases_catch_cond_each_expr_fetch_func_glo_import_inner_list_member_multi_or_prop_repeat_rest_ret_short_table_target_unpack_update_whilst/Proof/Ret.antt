@@ -64,11 +64,11 @@ module _ (t : ℕ) where
   returns c =
       let c2 = c.before.before in
       let c3 = c2.before in
-      let c7 = c3.before.before.before.before in
+      let c8 = c3.before.before.before.before.before in
       record {
         sim = λ z v o₀ A h.
-            given (ret_barred (lent c7.args.recs.now c7.args.notes.now) v c7.args.r (in_do (words c7.args.recs.now c7.args.r) z.small
-            c3.is-in-do.ensures h ∙ c2.if1.true) A) (bar_yes (words c7.args.recs.now c7.args.r) z.small c3.is-in-do.ensures h c2.if1.true c.cut.ensures);
+            given (ret_barred (lent c8.args.recs.now c8.args.notes.now) v c8.args.r (in_do (words c8.args.recs.now c8.args.r) z.small
+            c3.is-in-do.ensures h ∙ c2.if1.true) A) (bar_yes (words c8.args.recs.now c8.args.r) z.small c3.is-in-do.ensures h c2.if1.true c.cut.ensures);
       }
 
   first_requires : lts.Need-first-requires (calls t) (ret_at t) ret.Post
@@ -88,9 +88,9 @@ module _ (t : ℕ) where
       let c3 = c.before.before.before in
       let c4 = c3.before in
       let c10 = c4.before.before.before.before.before.before in
-      let c16 = c10.before.before.before.before.before.before in (
-        falls_child (size c16.args.recs.now) c16.args.r _ 8 7 t c16.requires.0 (lit< tt) (child1 c16.args.recs.now c10.first.ensures)
-            (tail_call c16.args.recs.now _ (sym c4.is_tail.ensures ∙ c3.if2.true)).0,
+      let c17 = c10.before.before.before.before.before.before.before in (
+        falls_child (size c17.args.recs.now) c17.args.r _ 8 7 t c17.requires.0 (lit< tt) (child1 c17.args.recs.now c10.first.ensures)
+            (tail_call c17.args.recs.now _ (sym c4.is_tail.ensures ∙ c3.if2.true)).0,
         tt,
       )
 
@@ -100,35 +100,41 @@ module _ (t : ℕ) where
 
   same_length : lts.Need-same-length (calls t) (ret_at t) ret.Post
   same_length c =
-      let c2 = c.before.before in
-      let c7 = c2.before.before.before.before.before in
-      let c15 = c7.before.before.before.before.before.before.before.before in
-      c2.push-null.auto.0 ∙ c7.call.auto.1.1.0 ∙ c15.push-return-label.auto.0
+      let c4 = c.before.before.before.before in
+      let c12 = c4.before.before.before.before.before.before.before.before in
+      let c20 = c12.before.before.before.before.before.before.before.before in
+      c4.push-null.auto.1.0 ∙ c12.call.auto.1.1.0 ∙ c20.push-return-label.auto.0
+
+  same_length_2 : lts.Need-same-length-2 (calls t) (ret_at t) ret.Post
+  same_length_2 c =
+      let c4 = c.before.before.before.before in
+      let c12 = c4.before.before.before.before.before.before.before.before in
+      c4.push-null.auto.1.1.0 ∙ c12.call.auto.1.1.1.0
 
   returns_2 : lts.Need-returns-2 (calls t) (ret_at t) ret.Post
   returns_2 c =
-      let c2 = c.before.before in
-      let c7 = c2.before.before.before.before.before in
-      let c11 = c7.before.before.before.before in
-      let c12 = c11.before in
-      let c15 = c12.before.before.before in
-      let c18 = c15.before.before.before in
-      let c19 = c18.before in
-      let c20 = c19.before in
-      let c24 = c20.before.before.before.before in
+      let c4 = c.before.before.before.before in
+      let c12 = c4.before.before.before.before.before.before.before.before in
+      let c16 = c12.before.before.before.before in
+      let c17 = c16.before in
+      let c20 = c17.before.before.before in
+      let c23 = c20.before.before.before in
+      let c24 = c23.before in
+      let c25 = c24.before in
+      let c30 = c25.before.before.before.before.before in
       record {
         sim = λ z v o₀ A h.
-            let h1 = bar_no (words c24.args.recs.now c24.args.r) z.small c20.is-in-do.ensures h c19.if1.false in
-            let h2 = (c15.push-return-label.ensures _ _ c24.args.r).moves v o₀ _ h1 in
-            let h3 = visited z Tail c18.first.ensures (resim (λ v z A. tail_visit (lent c24.args.recs.now c24.args.notes.now) v _ (tail_call c24.args.recs.now _ (sym c12.is_tail.ensures ∙ c11.if2.true)).0 (tail_call c24.args.recs.now _ (sym c12.is_tail.ensures ∙ c11.if2.true)).1 A) c7.call.ensures) h2 in
-            given (ret_tail (lent c24.args.recs.now c24.args.notes.now) v c24.args.r (ap (λ (x : ℕ). is_tail (own_tree (forest c24.args.recs.now x))) (sym c18.first.ensures) ∙ sym c12.is_tail.ensures ∙ c11.if2.true) A) (nulled c24.args.r c2.push-null.ensures h3);
+            let h1 = bar_no (words c30.args.recs.now c30.args.r) z.small c25.is-in-do.ensures h c24.if1.false in
+            let h2 = (c20.push-return-label.ensures _ _ c30.args.r).moves v o₀ _ h1 in
+            let h3 = visited z Tail c23.first.ensures (resim (λ v z A. tail_visit (lent c30.args.recs.now c30.args.notes.now) v _ (tail_call c30.args.recs.now _ (sym c17.is_tail.ensures ∙ c16.if2.true)).0 (tail_call c30.args.recs.now _ (sym c17.is_tail.ensures ∙ c16.if2.true)).1 A) c12.call.ensures) h2 in
+            given (ret_tail (lent c30.args.recs.now c30.args.notes.now) v c30.args.r (ap (λ (x : ℕ). is_tail (own_tree (forest c30.args.recs.now x))) (sym c23.first.ensures) ∙ sym c17.is_tail.ensures ∙ c16.if2.true) A) (nulled c30.args.r c4.push-null.ensures h3);
       }
 
   expr_requires : lts.Need-expr-requires (calls t) (ret_at t) ret.Post
   expr_requires c κs =
       let c10 = c.before.before.before.before.before.before.before.before.before.before in
-      let c16 = c10.before.before.before.before.before.before in
-      (falls_to (size c16.args.recs.now) c16.args.r _ 12 7 t c16.requires.0 (lit< tt) (child1 c16.args.recs.now c10.first.ensures), tt)
+      let c17 = c10.before.before.before.before.before.before.before in
+      (falls_to (size c17.args.recs.now) c17.args.r _ 12 7 t c17.requires.0 (lit< tt) (child1 c17.args.recs.now c10.first.ensures), tt)
 
   push_return_requires : lts.Need-push-return-requires (calls t) (ret_at t) ret.Post
   push_return_requires c κs =
@@ -138,35 +144,42 @@ module _ (t : ℕ) where
   push_null_requires_2 c κs =
       tt
 
-  same_length_2 : lts.Need-same-length-2 (calls t) (ret_at t) ret.Post
-  same_length_2 c =
-      let c2 = c.before.before in
-      let c7 = c2.before.before.before.before.before in
-      let c12 = c7.before.before.before.before.before in
-      let c20 = c12.before.before.before.before.before.before.before.before in
-      c2.push-null2.auto.0 ∙ c7.push-return.auto.0 ∙ c12.expr.auto.1.1.0 ∙ c20.push-return-label.auto.0
+  same_length_3 : lts.Need-same-length-3 (calls t) (ret_at t) ret.Post
+  same_length_3 c =
+      let c4 = c.before.before.before.before in
+      let c10 = c4.before.before.before.before.before.before in
+      let c17 = c10.before.before.before.before.before.before.before in
+      let c25 = c17.before.before.before.before.before.before.before.before in
+      c4.push-null2.auto.1.0 ∙ c10.push-return.auto.0 ∙ c17.expr.auto.1.1.0 ∙ c25.push-return-label.auto.0
+
+  same_length_4 : lts.Need-same-length-4 (calls t) (ret_at t) ret.Post
+  same_length_4 c =
+      let c4 = c.before.before.before.before in
+      let c17 = c4.before.before.before.before.before.before.before.before.before.before.before.before.before in
+      c4.push-null2.auto.1.1.0 ∙ c17.expr.auto.1.1.1.0
 
   returns_3 : lts.Need-returns-3 (calls t) (ret_at t) ret.Post
   returns_3 c =
-      let c2 = c.before.before in
-      let c7 = c2.before.before.before.before.before in
-      let c12 = c7.before.before.before.before.before in
-      let c16 = c12.before.before.before.before in
-      let c17 = c16.before in
-      let c20 = c17.before.before.before in
-      let c23 = c20.before.before.before in
-      let c24 = c23.before in
-      let c25 = c24.before in
-      let c29 = c25.before.before.before.before in
+      let c4 = c.before.before.before.before in
+      let c10 = c4.before.before.before.before.before.before in
+      let c17 = c10.before.before.before.before.before.before.before in
+      let c21 = c17.before.before.before.before in
+      let c22 = c21.before in
+      let c25 = c22.before.before.before in
+      let c28 = c25.before.before.before in
+      let c29 = c28.before in
+      let c30 = c29.before in
+      let c35 = c30.before.before.before.before.before in
       record {
         sim = λ z v o₀ A h.
-            let h1 = bar_no (words c29.args.recs.now c29.args.r) z.small c25.is-in-do.ensures h c24.if1.false in
-            let h2 = (c20.push-return-label.ensures _ _ c29.args.r).moves v o₀ _ h1 in
-            let h3 = visited z Expr c23.first.ensures c12.expr.ensures h2 in
-            let h4 = said c29.args.r Return 0 refl refl c7.push-return.ensures h3 in
-            given (ret_plain (lent c29.args.recs.now c29.args.notes.now) v c29.args.r (ap (λ (x : ℕ). is_tail (own_tree (forest c29.args.recs.now x))) (sym c23.first.ensures) ∙ sym c17.is_tail.ensures ∙ c16.if2.false) A) (nulled c29.args.r c2.push-null2.ensures h4);
+            let h1 = bar_no (words c35.args.recs.now c35.args.r) z.small c30.is-in-do.ensures h c29.if1.false in
+            let h2 = (c25.push-return-label.ensures _ _ c35.args.r).moves v o₀ _ h1 in
+            let h3 = visited z Expr c28.first.ensures c17.expr.ensures h2 in
+            let h4 = said c35.args.r Return 0 refl refl c10.push-return.ensures h3 in
+            given (ret_plain (lent c35.args.recs.now c35.args.notes.now) v c35.args.r (ap (λ (x : ℕ). is_tail (own_tree (forest c35.args.recs.now x))) (sym c28.first.ensures) ∙ sym c22.is_tail.ensures ∙ c21.if2.false) A) (nulled c35.args.r c4.push-null2.ensures h4);
       }
 
   pub closed : {M : Type 1} → lts.Closed (calls t) (ret_at t) ret.Post M
   closed = lts.spec (calls t) (ret_at t) ret.Post is_in_do_requires cut_requires returns first_requires push_return_label_requires is_tail_requires
-      call_requires push_null_requires same_length returns_2 expr_requires push_return_requires push_null_requires_2 same_length_2 returns_3
+      call_requires push_null_requires same_length same_length_2 returns_2 expr_requires push_return_requires push_null_requires_2 same_length_3 same_length_4
+      returns_3

@@ -64,8 +64,8 @@ module _ (t : ℕ) where
   fetch_requires : lts.Need-fetch-requires (calls t) (short_at t) short.Post
   fetch_requires c κs =
       let c6 = c.before.before.before.before.before.before in
-      let c9 = c6.before.before.before in
-      (falls_to (size c9.args.recs.now) c9.args.r _ 8 5 t c9.requires.0 (lit< tt) (child1 c9.args.recs.now c6.first.ensures), tt)
+      let c10 = c6.before.before.before.before in
+      (falls_to (size c10.args.recs.now) c10.args.r _ 8 5 t c10.requires.0 (lit< tt) (child1 c10.args.recs.now c6.first.ensures), tt)
 
   push_short_jump_requires : lts.Need-push-short-jump-requires (calls t) (short_at t) short.Post
   push_short_jump_requires c κs =
@@ -73,10 +73,10 @@ module _ (t : ℕ) where
 
   expr_requires : lts.Need-expr-requires (calls t) (short_at t) short.Post
   expr_requires c κs =
-      let c16 = c.before.before.before.before.before.before.before.before.before.before.before.before.before.before.before.before in
-      let c17 = c16.before in
-      let c20 = c17.before.before.before in (
-        falls_to (size c20.args.recs.now) c20.args.r _ 12 5 t c20.requires.0 (lit< tt) (child2 c20.args.recs.now c16.next.ensures (child1 c20.args.recs.now c17.first.ensures)),
+      let c18 = c.before.before.before.before.before.before.before.before.before.before.before.before.before.before.before.before.before.before in
+      let c19 = c18.before in
+      let c23 = c19.before.before.before.before in (
+        falls_to (size c23.args.recs.now) c23.args.r _ 12 5 t c23.pre.0 (lit< tt) (child2 c23.args.recs.now c18.next.ensures (child1 c23.args.recs.now c19.first.ensures)),
         tt,
       )
 
@@ -94,39 +94,46 @@ module _ (t : ℕ) where
 
   same_length : lts.Need-same-length (calls t) (short_at t) short.Post
   same_length c =
-      let c2 = c.before.before in
-      let c7 = c2.before.before.before.before.before in
-      let c12 = c7.before.before.before.before.before in
-      let c17 = c12.before.before.before.before.before in
-      let c23 = c17.before.before.before.before.before.before in
-      let c28 = c23.before.before.before.before.before in
-      c2.push-null.auto.0 ∙ c7.after.auto.1.1.0 ∙ c12.push-label.auto.0 ∙ c17.expr.auto.1.1.0 ∙ c23.push-short-jump.auto.0 ∙ c28.fetch.auto.1.1.0
+      let c4 = c.before.before.before.before in
+      let c10 = c4.before.before.before.before.before.before in
+      let c15 = c10.before.before.before.before.before in
+      let c22 = c15.before.before.before.before.before.before.before in
+      let c28 = c22.before.before.before.before.before.before in
+      let c35 = c28.before.before.before.before.before.before.before in
+      c4.push-null.auto.1.0 ∙ c10.after.auto.1.1.0 ∙ c15.push-label.auto.0 ∙ c22.expr.auto.1.1.0 ∙ c28.push-short-jump.auto.0 ∙ c35.fetch.auto.1.1.0
+
+  same_length_2 : lts.Need-same-length-2 (calls t) (short_at t) short.Post
+  same_length_2 c =
+      let c4 = c.before.before.before.before in
+      let c22 = c4.before.before.before.before.before.before.before.before.before.before.before.before.before.before.before.before.before.before in
+      let c35 = c22.before.before.before.before.before.before.before.before.before.before.before.before.before in
+      c4.push-null.auto.1.1.0 ∙ c22.expr.kept.1.1.1.0 ∙ c35.fetch.kept.1.1.1.0
 
   returns : lts.Need-returns (calls t) (short_at t) short.Post
   unfolding does doing exec
   returns c =
-      let c2 = c.before.before in
-      let c7 = c2.before.before.before.before.before in
-      let c12 = c7.before.before.before.before.before in
-      let c17 = c12.before.before.before.before.before in
-      let c23 = c17.before.before.before.before.before.before in
-      let c28 = c23.before.before.before.before.before in
-      let c32 = c28.before.before.before.before in
-      let c34 = c32.before.before in
-      let c35 = c34.before in
-      let c38 = c35.before.before.before in
+      let c4 = c.before.before.before.before in
+      let c10 = c4.before.before.before.before.before.before in
+      let c15 = c10.before.before.before.before.before in
+      let c22 = c15.before.before.before.before.before.before.before in
+      let c28 = c22.before.before.before.before.before.before in
+      let c35 = c28.before.before.before.before.before.before.before in
+      let c39 = c35.before.before.before.before in
+      let c41 = c39.before.before in
+      let c42 = c41.before in
+      let c46 = c42.before.before.before.before in
       record {
         sim = λ z v o₀ A h.
-            let l = label c32.get_label.ensures h in
-            let h1 = labelled c32.get_label.ensures h in
-            let h2 = visited z Before c35.first.ensures c28.fetch.ensures h1 in
-            let h3 = jumped c38.args.r (short_jump c38.args.operator) _ refl l c23.push-short-jump.ensures h2 in
-            let h4 = visited z Expr (next_of c38.args.recs.now c34.next.ensures c35.first.ensures) c17.expr.ensures h3 in
-            let h5 = placed c38.args.r _ refl l c12.push-label.ensures h4 in
-            let h6 = visited z After c35.first.ensures (c7.after.ensures _) h5 in
-            nulled c38.args.r c2.push-null.ensures h6;
+            let l = label c39.get_label.ensures h in
+            let h1 = labelled c39.get_label.ensures h in
+            let h2 = visited z Before c42.first.ensures c35.fetch.ensures h1 in
+            let h3 = jumped c46.args.r (short_jump c46.args.operator) _ refl l c28.push-short-jump.ensures h2 in
+            let h4 = visited z Expr (next_of c46.args.recs.now c41.next.ensures c42.first.ensures) c22.expr.ensures h3 in
+            let h5 = placed c46.args.r _ refl l c15.push-label.ensures h4 in
+            let h6 = visited z After c42.first.ensures (c10.after.ensures _) h5 in
+            nulled c46.args.r c4.push-null.ensures h6;
       }
 
   pub closed : {M : Type 1} → lts.Closed (calls t) (short_at t) short.Post M
   closed = lts.spec (calls t) (short_at t) short.Post first_requires next_requires get_label_requires fetch_requires push_short_jump_requires expr_requires
-      push_label_requires after_requires push_null_requires same_length returns
+      push_label_requires after_requires push_null_requires same_length same_length_2 returns

@@ -52,8 +52,8 @@ module _ (t : ℕ) where
   all_requires : lts.Need-all-requires (calls t) (table_at t) table.Post
   all_requires c κs =
       let c4 = c.before.before.before.before in
-      let c7 = c4.before.before.before in
-      (falls_to (size c7.args.recs.now) c7.args.r _ 13 7 t c7.requires.0 (lit< tt) (child1 c7.args.recs.now c4.first.ensures), tt)
+      let c8 = c4.before.before.before.before in
+      (falls_to (size c8.args.recs.now) c8.args.r _ 13 7 t c8.requires.0 (lit< tt) (child1 c8.args.recs.now c4.first.ensures), tt)
 
   capped_requires : lts.Need-capped-requires (calls t) (table_at t) table.Post
   capped_requires c κs =
@@ -66,26 +66,32 @@ module _ (t : ℕ) where
   same_length : lts.Need-same-length (calls t) (table_at t) table.Post
   same_length c =
       let c2 = c.before.before in
-      let c8 = c2.before.before.before.before.before.before in
-      c2.push-build-table.auto.0 ∙ c8.all.auto.1.1.0
+      let c10 = c2.before.before.before.before.before.before.before.before in
+      c2.push-build-table.auto.0 ∙ c10.all.auto.1.1.0
+
+  same_length_2 : lts.Need-same-length-2 (calls t) (table_at t) table.Post
+  same_length_2 c =
+      let c10 = c.before.before.before.before.before.before.before.before.before.before in
+      c10.all.auto.1.1.1.0
 
   returns : lts.Need-returns (calls t) (table_at t) table.Post
   unfolding does doing exec
   returns c =
       let c2 = c.before.before in
       let c3 = c2.before in
-      let c8 = c3.before.before.before.before.before in
-      let c12 = c8.before.before.before.before in
-      let c13 = c12.before in
-      let c16 = c13.before.before.before in
+      let c10 = c3.before.before.before.before.before.before.before in
+      let c14 = c10.before.before.before.before in
+      let c15 = c14.before in
+      let c19 = c15.before.before.before.before in
       record {
         sim = λ z v o₀ A h.
-            let w = (c12.width.ensures ∙ ap (λ (x : ℕ). width (own_tree (forest c16.args.recs.now x))) c13.first.ensures) in
-            let h1 = through_at z w c13.first.ensures c8.all.ensures h in
-            given (visits_part (lent c16.args.recs.now c16.args.notes.now) v c16.args.r Expr 0 (width (own_tree (children c16.args.recs.now
-            c16.args.r))) (push_op BuildTable (width (own_tree (children c16.args.recs.now c16.args.r)) / 2) ∷ []) [] A) (said c16.args.r
+            let w = (c14.width.ensures ∙ ap (λ (x : ℕ). width (own_tree (forest c19.args.recs.now x))) c15.first.ensures) in
+            let h1 = through_at z w c15.first.ensures c10.all.ensures h in
+            given (visits_part (lent c19.args.recs.now c19.args.notes.now) v c19.args.r Expr 0 (width (own_tree (children c19.args.recs.now
+            c19.args.r))) (push_op BuildTable (width (own_tree (children c19.args.recs.now c19.args.r)) / 2) ∷ []) [] A) (said c19.args.r
             BuildTable _ refl (c3.capped.ensures ∙ ap (λ (n : ℕ). cap (n / 2)) w) c2.push-build-table.ensures h1);
       }
 
   pub closed : {M : Type 1} → lts.Closed (calls t) (table_at t) table.Post M
-  closed = lts.spec (calls t) (table_at t) table.Post first_requires width_requires all_requires capped_requires push_build_table_requires same_length returns
+  closed = lts.spec (calls t) (table_at t) table.Post first_requires width_requires all_requires capped_requires push_build_table_requires same_length
+      same_length_2 returns

@@ -48,8 +48,8 @@ calls t = (
 module _ (t : ℕ) where
   returns : lts.Need-returns (calls t) (target_at t) target.Post
   returns c =
-      let c3 = c.before.before.before in
-      resim (λ v z A. absent (lent c3.args.recs.now c3.args.notes.now) v Target c.if1.true A) stay
+      let c4 = c.before.before.before.before in
+      resim (λ v z A. absent (lent c4.args.recs.now c4.args.notes.now) v Target c.if1.true A) stay
 
   kind_requires : lts.Need-kind-requires (calls t) (target_at t) target.Post
   kind_requires c κs =
@@ -59,8 +59,8 @@ module _ (t : ℕ) where
   returns_2 c =
       let c1 = c.before in
       let c2 = c1.before in
-      let c5 = c2.before.before.before in
-      resim (λ v z A. target_other (lent c5.args.recs.now c5.args.notes.now) v c5.args.left c2.if1.false (λ e. c.if2.true (c1.kind.ensures ∙ e)) A) stay
+      let c6 = c2.before.before.before.before in
+      resim (λ v z A. target_other (lent c6.args.recs.now c6.args.notes.now) v c6.args.left c2.if1.false (λ e. c.if2.true (c1.kind.ensures ∙ e)) A) stay
 
   first_requires : lts.Need-first-requires (calls t) (target_at t) target.Post
   first_requires c κs =
@@ -89,11 +89,11 @@ module _ (t : ℕ) where
       let c8 = c7.before in
       let c9 = c8.before in
       let c10 = c9.before in
-      let c13 = c10.before.before.before in
-      resim (λ v z A. target_plain (lent c13.args.recs.now c13.args.notes.now) v c13.args.left c10.if1.false (sym c9.kind.ensures ∙ c8.if2.false) (sym c6.detail.ensures ∙ c5.if3.true) A)
+      let c14 = c10.before.before.before.before in
+      resim (λ v z A. target_plain (lent c14.args.recs.now c14.args.notes.now) v c14.args.left c10.if1.false (sym c9.kind.ensures ∙ c8.if2.false) (sym c6.detail.ensures ∙ c5.if3.true) A)
       (record {
         sim = λ z v o₀ A h.
-            used z c13.args.left 0 Set c7.first.ensures c2.store.ensures h;
+            used z c14.args.left 0 Set c7.first.ensures c2.store.ensures h;
       })
 
   left_property_requires : lts.Need-left-property-requires (calls t) (target_at t) target.Post
@@ -107,8 +107,8 @@ module _ (t : ℕ) where
   prop_requires : lts.Need-prop-requires (calls t) (target_at t) target.Post
   prop_requires c κs =
       let c14 = c.before.before.before.before.before.before.before.before.before.before.before.before.before.before in
-      let c17 = c14.before.before.before in
-      (falls_rank (size c17.args.recs.now) c17.args.left 6 8 t c17.requires.0 c14.if1.false (lit< tt), tt)
+      let c18 = c14.before.before.before.before in
+      (falls_rank (size c18.args.recs.now) c18.args.left 6 8 t c18.requires.0 c14.if1.false (lit< tt), tt)
 
   push_set_requires : lts.Need-push-set-requires (calls t) (target_at t) target.Post
   push_set_requires c κs =
@@ -122,33 +122,38 @@ module _ (t : ℕ) where
   same_length_2 c =
       let c2 = c.before.before in
       let c7 = c2.before.before.before.before.before in
-      let c12 = c7.before.before.before.before.before in
-      let c18 = c12.before.before.before.before.before.before in
-      c2.store2.auto.1.0 ∙ c7.push-set.auto.0 ∙ c12.prop.auto.1.1.0 ∙ c18.load.auto.1.0
+      let c14 = c7.before.before.before.before.before.before.before in
+      let c20 = c14.before.before.before.before.before.before in
+      c2.store2.auto.1.0 ∙ c7.push-set.auto.0 ∙ c14.prop.auto.1.1.0 ∙ c20.load.auto.1.0
+
+  same_length_3 : lts.Need-same-length-3 (calls t) (target_at t) target.Post
+  same_length_3 c =
+      let c14 = c.before.before.before.before.before.before.before.before.before.before.before.before.before.before in
+      c14.prop.auto.1.1.1.0
 
   returns_4 : lts.Need-returns-4 (calls t) (target_at t) target.Post
   unfolding does doing exec
   returns_4 c =
       let c2 = c.before.before in
       let c7 = c2.before.before.before.before.before in
-      let c12 = c7.before.before.before.before.before in
-      let c18 = c12.before.before.before.before.before.before in
-      let c21 = c18.before.before.before in
-      let c22 = c21.before in
-      let c23 = c22.before in
+      let c14 = c7.before.before.before.before.before.before.before in
+      let c20 = c14.before.before.before.before.before.before in
+      let c23 = c20.before.before.before in
       let c24 = c23.before in
       let c25 = c24.before in
       let c26 = c25.before in
       let c27 = c26.before in
-      let c30 = c27.before.before.before in
+      let c28 = c27.before in
+      let c29 = c28.before in
+      let c33 = c29.before.before.before.before in
       record {
         sim = λ z v o₀ A h.
-            let h1 = used z c30.args.left 0 Get c24.first.ensures c18.load.ensures h in
-            let h2 = propped z c30.args.left (word c30.args.recs.now c30.args.left 1 - 1) c21.left_property.ensures c12.prop.ensures h1 in
-            let h3 = was_set c30.args.left (word c30.args.recs.now c30.args.left 1 - 1) c21.left_property.ensures c7.push-set.ensures h2 in
-            given (target_member (lent c30.args.recs.now c30.args.notes.now) v c30.args.left c27.if1.false (sym c26.kind.ensures ∙ c25.if2.false) (λ e. c22.if3.false (c23.detail.ensures ∙ e)) A) (used z c30.args.left 0 Set c24.first.ensures c2.store2.ensures h3);
+            let h1 = used z c33.args.left 0 Get c26.first.ensures c20.load.ensures h in
+            let h2 = propped z c33.args.left (word c33.args.recs.now c33.args.left 1 - 1) c23.left_property.ensures c14.prop.ensures h1 in
+            let h3 = was_set c33.args.left (word c33.args.recs.now c33.args.left 1 - 1) c23.left_property.ensures c7.push-set.ensures h2 in
+            given (target_member (lent c33.args.recs.now c33.args.notes.now) v c33.args.left c29.if1.false (sym c28.kind.ensures ∙ c27.if2.false) (λ e. c24.if3.false (c25.detail.ensures ∙ e)) A) (used z c33.args.left 0 Set c26.first.ensures c2.store2.ensures h3);
       }
 
   pub closed : {M : Type 1} → lts.Closed (calls t) (target_at t) target.Post M
   closed = lts.spec (calls t) (target_at t) target.Post returns kind_requires returns_2 first_requires detail_requires store_requires same_length returns_3
-      left_property_requires load_requires prop_requires push_set_requires store_requires_2 same_length_2 returns_4
+      left_property_requires load_requires prop_requires push_set_requires store_requires_2 same_length_2 same_length_3 returns_4

@@ -85,8 +85,8 @@ module _ (t : ℕ) where
       let c3 = c.before.before.before in
       let c4 = c3.before in
       let c5 = c4.before in
-      let c8 = c5.before.before.before in (
-        falls_to (size c8.args.recs.now) c8.args.r _ 12 7 t c8.requires.0 (lit< tt) (linked_nth c8.args.recs.now c8.args.r c4.p.result c5.first.ensures c3.nth.ensures),
+      let c9 = c5.before.before.before.before in (
+        falls_to (size c9.args.recs.now) c9.args.r _ 12 7 t c9.requires.0 (lit< tt) (linked_nth c9.args.recs.now c9.args.r c4.p.result c5.first.ensures c3.nth.ensures),
         tt,
       )
 
@@ -96,9 +96,9 @@ module _ (t : ℕ) where
 
   loop_holds : lts.Need-loop-init (calls t) (unpack_at t) unpack.Post Inv-loop μ-loop
   loop_holds c =
-      let c13 = c.before.before.before.before.before.before.before.before.before.before.before.before.before in
-      let c16 = c13.before.before.before in
-      unpacking_start (lent c16.args.recs.now c16.args.notes.now) c16.args.r _ _ _ _ c13.first.ensures (child1 c16.args.recs.now c13.first.ensures)
+      let c15 = c.before.before.before.before.before.before.before.before.before.before.before.before.before.before.before in
+      let c19 = c15.before.before.before.before in
+      unpacking_start (lent c19.args.recs.now c19.args.notes.now) c19.args.r _ _ _ _ c15.first.ensures (child1 c19.args.recs.now c15.first.ensures)
 
   push_load_const_requires : lts.Need-push-load-const-requires (calls t) (unpack_at t) unpack.Post Inv-loop μ-loop
   push_load_const_requires c κs =
@@ -110,9 +110,9 @@ module _ (t : ℕ) where
 
   target_requires : lts.Need-target-requires (calls t) (unpack_at t) unpack.Post Inv-loop μ-loop
   target_requires c κs =
-      let c15 = c.before.before.before.before.before.before.before.before.before.before.before.before.before.before.before in
-      let c32 = c15.before.before.before.before.before.before.before.before.before.before.before.before.before.before.before.before.before in
-      (falls_to (size c32.args.recs.now) c32.args.r _ 8 7 t c32.requires.0 (lit< tt) c15.loop.invariant.link, tt)
+      let c17 = c.before.before.before.before.before.before.before.before.before.before.before.before.before.before.before.before.before in
+      let c37 = c17.before.before.before.before.before.before.before.before.before.before.before.before.before.before.before.before.before.before.before.before in
+      (falls_to (size c37.args.recs.now) c37.args.r _ 8 7 t c37.pre.0 (lit< tt) c17.loop.invariant.link, tt)
 
   next_requires : lts.Need-next-requires (calls t) (unpack_at t) unpack.Post Inv-loop μ-loop
   next_requires c κs =
@@ -120,31 +120,31 @@ module _ (t : ℕ) where
 
   add_i : lts.Need-overflow-add-i (calls t) (unpack_at t) unpack.Post Inv-loop μ-loop
   add_i c =
-      let c18 = c.before.before.before.before.before.before.before.before.before.before.before.before.before.before.before.before.before.before in
-      let c32 = c18.before.before.before.before.before.before.before.before.before.before.before.before.before.before in
-      let g = c18.loop-test.taken in let b = c32.p.ok in search rules
+      let c22 = c.before.before.before.before.before.before.before.before.before.before.before.before.before.before.before.before.before.before.before.before.before.before in
+      let c38 = c22.before.before.before.before.before.before.before.before.before.before.before.before.before.before.before.before in
+      let g = c22.loop-test.taken in let b = c38.p.ok in search rules
 
   loop_less : lts.Need-loop-smaller (calls t) (unpack_at t) unpack.Post Inv-loop μ-loop
   loop_less c =
-      let c18 = c.before.before.before.before.before.before.before.before.before.before.before.before.before.before.before.before.before.before in
-      omega (arith, c18.loop-test.taken)
+      let c22 = c.before.before.before.before.before.before.before.before.before.before.before.before.before.before.before.before.before.before.before.before.before.before in
+      omega (arith, c22.loop-test.taken)
 
   loop_again : lts.Need-loop-preserved (calls t) (unpack_at t) unpack.Post Inv-loop μ-loop
   loop_again c =
-      let c3 = c.before.before.before in
-      let c9 = c3.before.before.before.before.before.before in
-      let c14 = c9.before.before.before.before.before in
-      let c18 = c14.before.before.before.before in
-      let c19 = c18.before in
-      let c36 = c19.before.before.before.before.before.before.before.before.before.before.before.before.before.before.before.before.before in
-      unpacking_again (lent c36.args.recs.now c36.args.notes.now) c36.args.r _ c19.loop.invariant c18.loop-test.true c.next.ensures
+      let c5 = c.before.before.before.before.before in
+      let c11 = c5.before.before.before.before.before.before in
+      let c18 = c11.before.before.before.before.before.before.before in
+      let c22 = c18.before.before.before.before in
+      let c23 = c22.before in
+      let c43 = c23.before.before.before.before.before.before.before.before.before.before.before.before.before.before.before.before.before.before.before.before in
+      unpacking_again (lent c43.args.recs.now c43.args.notes.now) c43.args.r _ c23.loop.invariant c22.loop-test.true c.next.ensures
       (record {
         sim = λ z v o₀ A h.
-            let h1 = int_loaded c36.args.r _ refl c14.push-load-const.ensures h in
-            let h2 = said c36.args.r GetItem 0 refl refl c9.push-get-item.ensures h1 in
-            visited z Target refl c3.target.ensures h2;
+            let h1 = int_loaded c43.args.r _ refl c18.push-load-const.ensures h in
+            let h2 = said c43.args.r GetItem 0 refl refl c11.push-get-item.ensures h1 in
+            visited z Target refl c5.target.ensures h2;
       })
-      (c3.target.auto.1.1.0 ∙ c9.push-get-item.auto.0 ∙ c14.push-load-const.auto.1.0)
+      (c5.target.auto.1.1.0 ∙ c11.push-get-item.auto.0 ∙ c18.push-load-const.auto.1.0) (c5.target.auto.1.1.1.0 ∙ c18.push-load-const.auto.1.1.0)
 
   push_null_requires : lts.Need-push-null-requires (calls t) (unpack_at t) unpack.Post Inv-loop μ-loop
   push_null_requires c κs =
@@ -152,32 +152,40 @@ module _ (t : ℕ) where
 
   same_length : lts.Need-same-length (calls t) (unpack_at t) unpack.Post Inv-loop μ-loop
   same_length c =
-      let c2 = c.before.before in
-      let c6 = c2.before.before.before.before in
-      let c9 = c6.before.before.before in
-      let c14 = c9.before.before.before.before.before in
-      c2.push-null.auto.0 ∙ c6.loop.invariant.long ∙ c9.copies.auto.0 ∙ c14.expr.auto.1.1.0
+      let c4 = c.before.before.before.before in
+      let c9 = c4.before.before.before.before.before in
+      let c12 = c9.before.before.before in
+      let c19 = c12.before.before.before.before.before.before.before in
+      c4.push-null.auto.1.0 ∙ c9.loop.invariant.sizes.0 ∙ c12.copies.auto.0 ∙ c19.expr.auto.1.1.0
+
+  same_length_2 : lts.Need-same-length-2 (calls t) (unpack_at t) unpack.Post Inv-loop μ-loop
+  same_length_2 c =
+      let c4 = c.before.before.before.before in
+      let c9 = c4.before.before.before.before.before in
+      let c19 = c9.before.before.before.before.before.before.before.before.before.before in
+      c4.push-null.auto.1.1.0 ∙ c9.loop.invariant.sizes.1 ∙ c19.expr.auto.1.1.1.0
 
   returns : lts.Need-returns (calls t) (unpack_at t) unpack.Post Inv-loop μ-loop
   returns c =
-      let c2 = c.before.before in
-      let c5 = c2.before.before.before in
-      let c6 = c5.before in
-      let c9 = c6.before.before.before in
-      let c14 = c9.before.before.before.before.before in
-      let c18 = c14.before.before.before.before in
-      let c19 = c18.before in
-      let c20 = c19.before in
-      let c23 = c20.before.before.before in
+      let c4 = c.before.before.before.before in
+      let c8 = c4.before.before.before.before in
+      let c9 = c8.before in
+      let c12 = c9.before.before.before in
+      let c19 = c12.before.before.before.before.before.before.before in
+      let c23 = c19.before.before.before.before in
+      let c24 = c23.before in
+      let c25 = c24.before in
+      let c29 = c25.before.before.before.before in
       record {
         sim = λ z v o₀ A h.
-            let h1 = visited z Expr (c18.nth.ensures ∙ ap₂ (nth c23.args.recs.now) c19.p.ensures c20.first.ensures) c14.expr.ensures h in
-            let h2 = (c9.copies.ensures _ _ c23.args.r).moves v o₀ _ h1 in
-            let h3 = (unpacking_end (lent c23.args.recs.now c23.args.notes.now) c23.args.r _ c6.loop.invariant c5.loop-test.false).sim z v o₀ _ h2
+            let h1 = visited z Expr (c23.nth.ensures ∙ ap₂ (nth c29.args.recs.now) c24.p.ensures c25.first.ensures) c19.expr.ensures h in
+            let h2 = (c12.copies.ensures _ _ c29.args.r).moves v o₀ _ h1 in
+            let h3 = (unpacking_end (lent c29.args.recs.now c29.args.notes.now) c29.args.r _ c9.loop.invariant c8.loop-test.false).sim z v o₀ _ h2
             in
-            given (unpack_run (lent c23.args.recs.now c23.args.notes.now) v c23.args.r c19.p.ensures A) (nulled c23.args.r c2.push-null.ensures h3);
+            given (unpack_run (lent c29.args.recs.now c29.args.notes.now) v c29.args.r c24.p.ensures A) (nulled c29.args.r c4.push-null.ensures h3);
       }
 
   pub closed : {M : Type 1} → lts.Closed (calls t) (unpack_at t) unpack.Post M
   closed = lts.spec (calls t) (unpack_at t) unpack.Post Inv-loop μ-loop first_requires p_requires cast_nth nth_requires expr_requires copies_requires
-      loop_holds push_load_const_requires push_get_item_requires target_requires next_requires add_i loop_less loop_again push_null_requires same_length returns
+      loop_holds push_load_const_requires push_get_item_requires target_requires next_requires add_i loop_less loop_again push_null_requires same_length
+      same_length_2 returns

@@ -70,38 +70,43 @@ module _ (t : ℕ) where
 
   short_requires : lts.Need-short-requires (calls t) (update_at t) update.Post
   short_requires c κs =
-      let c10 = c.before.before.before.before.before.before.before.before.before.before in
-      (falls_rank2 (size c10.args.recs.now) c10.args.r 6 8 t c10.requires.0 (lit< tt), tt)
+      let c11 = c.before.before.before.before.before.before.before.before.before.before.before in
+      (falls_rank2 (size c11.args.recs.now) c11.args.r 6 8 t c11.requires.0 (lit< tt), tt)
 
   same_length : lts.Need-same-length (calls t) (update_at t) update.Post
   same_length c =
-      let c2 = c.before.before in
-      c2.short.auto.1.1.0
+      let c4 = c.before.before.before.before in
+      c4.short.auto.1.1.0
+
+  same_length_2 : lts.Need-same-length-2 (calls t) (update_at t) update.Post
+  same_length_2 c =
+      let c4 = c.before.before.before.before in
+      c4.short.auto.1.1.1.0
 
   returns : lts.Need-returns (calls t) (update_at t) update.Post
   returns c =
-      let c2 = c.before.before in
-      let c6 = c2.before.before.before.before in
-      let c7 = c6.before in
-      let c8 = c7.before in
-      let c10 = c8.before.before in
-      let c13 = c10.before.before.before in
-      resim (λ v z A. short_run (lent c13.args.recs.now c13.args.notes.now) v c13.args.r c8.binary-operator.ensures (sym (short_assign_lem (word
-      c13.args.recs.now c13.args.r 1) c8.binary-operator.ensures (own_tree (children c13.args.recs.now c13.args.r))) ∙ ap (λ (x : ℕ).
-      short_assign c8.binary-operator.result (own_tree (forest c13.args.recs.now x))) (sym c10.first.ensures) ∙ sym c7.is-short-assign.ensures ∙ c6.if1.true) A) c2.short.ensures
+      let c4 = c.before.before.before.before in
+      let c8 = c4.before.before.before.before in
+      let c9 = c8.before in
+      let c10 = c9.before in
+      let c12 = c10.before.before in
+      let c16 = c12.before.before.before.before in
+      resim (λ v z A. short_run (lent c16.args.recs.now c16.args.notes.now) v c16.args.r c10.binary-operator.ensures (sym (short_assign_lem (word
+      c16.args.recs.now c16.args.r 1) c10.binary-operator.ensures (own_tree (children c16.args.recs.now c16.args.r))) ∙ ap (λ (x :
+      ℕ). short_assign c10.binary-operator.result (own_tree (forest c16.args.recs.now x))) (sym c12.first.ensures) ∙ sym c9.is-short-assign.ensures ∙ c8.if1.true) A) c4.short.ensures
 
   fetch_requires : lts.Need-fetch-requires (calls t) (update_at t) update.Post
   fetch_requires c κs =
       let c7 = c.before.before.before.before.before.before.before in
-      let c10 = c7.before.before.before in
-      (falls_to (size c10.args.recs.now) c10.args.r _ 8 7 t c10.requires.0 (lit< tt) (child1 c10.args.recs.now c7.first.ensures), tt)
+      let c11 = c7.before.before.before.before in
+      (falls_to (size c11.args.recs.now) c11.args.r _ 8 7 t c11.requires.0 (lit< tt) (child1 c11.args.recs.now c7.first.ensures), tt)
 
   expr_requires : lts.Need-expr-requires (calls t) (update_at t) update.Post
   expr_requires c κs =
-      let c12 = c.before.before.before.before.before.before.before.before.before.before.before.before in
-      let c13 = c12.before in
-      let c16 = c13.before.before.before in (
-        falls_to (size c16.args.recs.now) c16.args.r _ 12 7 t c16.requires.0 (lit< tt) (child2 c16.args.recs.now c12.next.ensures (child1 c16.args.recs.now c13.first.ensures)),
+      let c14 = c.before.before.before.before.before.before.before.before.before.before.before.before.before.before in
+      let c15 = c14.before in
+      let c19 = c15.before.before.before.before in (
+        falls_to (size c19.args.recs.now) c19.args.r _ 12 7 t c19.requires.0 (lit< tt) (child2 c19.args.recs.now c14.next.ensures (child1 c19.args.recs.now c15.first.ensures)),
         tt,
       )
 
@@ -117,37 +122,45 @@ module _ (t : ℕ) where
   push_null_requires c κs =
       tt
 
-  same_length_2 : lts.Need-same-length-2 (calls t) (update_at t) update.Post
-  same_length_2 c =
-      let c2 = c.before.before in
-      let c7 = c2.before.before.before.before.before in
-      let c12 = c7.before.before.before.before.before in
-      let c17 = c12.before.before.before.before.before in
-      let c23 = c17.before.before.before.before.before.before in
-      c2.push-null.auto.0 ∙ c7.after.auto.1.1.0 ∙ c12.push-binary.auto.0 ∙ c17.expr.auto.1.1.0 ∙ c23.fetch.auto.1.1.0
+  same_length_3 : lts.Need-same-length-3 (calls t) (update_at t) update.Post
+  same_length_3 c =
+      let c4 = c.before.before.before.before in
+      let c10 = c4.before.before.before.before.before.before in
+      let c15 = c10.before.before.before.before.before in
+      let c22 = c15.before.before.before.before.before.before.before in
+      let c30 = c22.before.before.before.before.before.before.before.before in
+      c4.push-null.auto.1.0 ∙ c10.after.auto.1.1.0 ∙ c15.push-binary.auto.0 ∙ c22.expr.auto.1.1.0 ∙ c30.fetch.auto.1.1.0
+
+  same_length_4 : lts.Need-same-length-4 (calls t) (update_at t) update.Post
+  same_length_4 c =
+      let c4 = c.before.before.before.before in
+      let c22 = c4.before.before.before.before.before.before.before.before.before.before.before.before.before.before.before.before.before.before in
+      let c30 = c22.before.before.before.before.before.before.before.before in
+      c4.push-null.auto.1.1.0 ∙ c22.expr.kept.1.1.1.0 ∙ c30.fetch.kept.1.1.1.0
 
   returns_2 : lts.Need-returns-2 (calls t) (update_at t) update.Post
   returns_2 c =
-      let c2 = c.before.before in
-      let c7 = c2.before.before.before.before.before in
-      let c12 = c7.before.before.before.before.before in
-      let c17 = c12.before.before.before.before.before in
-      let c23 = c17.before.before.before.before.before.before in
-      let c27 = c23.before.before.before.before in
-      let c28 = c27.before in
-      let c29 = c28.before in
-      let c30 = c29.before in
-      let c31 = c30.before in
-      let c34 = c31.before.before.before in
+      let c4 = c.before.before.before.before in
+      let c10 = c4.before.before.before.before.before.before in
+      let c15 = c10.before.before.before.before.before in
+      let c22 = c15.before.before.before.before.before.before.before in
+      let c30 = c22.before.before.before.before.before.before.before.before in
+      let c34 = c30.before.before.before.before in
+      let c35 = c34.before in
+      let c36 = c35.before in
+      let c37 = c36.before in
+      let c38 = c37.before in
+      let c42 = c38.before.before.before.before in
       record {
         sim = λ z v o₀ A h.
-            let h1 = visited z Before c31.first.ensures c23.fetch.ensures h in
-            let h2 = visited z Expr (next_of c34.args.recs.now c30.next.ensures c31.first.ensures) c17.expr.ensures h1 in
-            let h3 = operated (word c34.args.recs.now c34.args.r 1) c29.binary-operator.ensures c34.args.r c12.push-binary.ensures h2 in
-            let h4 = visited z After c31.first.ensures (c7.after.ensures _) h3 in
-            given (update_run (lent c34.args.recs.now c34.args.notes.now) v c34.args.r (sym (short_assign_lem (word c34.args.recs.now c34.args.r 1) c29.binary-operator.ensures (own_tree (children c34.args.recs.now c34.args.r))) ∙ ap (λ (x : ℕ). short_assign c29.binary-operator.result (own_tree (forest c34.args.recs.now x))) (sym c31.first.ensures) ∙ sym c28.is-short-assign.ensures ∙ c27.if1.false) A) (nulled c34.args.r c2.push-null.ensures h4);
+            let h1 = visited z Before c38.first.ensures c30.fetch.ensures h in
+            let h2 = visited z Expr (next_of c42.args.recs.now c37.next.ensures c38.first.ensures) c22.expr.ensures h1 in
+            let h3 = operated (word c42.args.recs.now c42.args.r 1) c36.binary-operator.ensures c42.args.r c15.push-binary.ensures h2 in
+            let h4 = visited z After c38.first.ensures (c10.after.ensures _) h3 in
+            given (update_run (lent c42.args.recs.now c42.args.notes.now) v c42.args.r (sym (short_assign_lem (word c42.args.recs.now c42.args.r 1) c36.binary-operator.ensures (own_tree (children c42.args.recs.now c42.args.r))) ∙ ap (λ (x : ℕ). short_assign c36.binary-operator.result (own_tree (forest c42.args.recs.now x))) (sym c38.first.ensures) ∙ sym c35.is-short-assign.ensures ∙ c34.if1.false) A) (nulled c42.args.r c4.push-null.ensures h4);
       }
 
   pub closed : {M : Type 1} → lts.Closed (calls t) (update_at t) update.Post M
   closed = lts.spec (calls t) (update_at t) update.Post first_requires next_requires binary_operator_requires is_short_assign_requires short_requires
-      same_length returns fetch_requires expr_requires push_binary_requires after_requires push_null_requires same_length_2 returns_2
+      same_length same_length_2 returns fetch_requires expr_requires push_binary_requires after_requires push_null_requires same_length_3 same_length_4
+      returns_2

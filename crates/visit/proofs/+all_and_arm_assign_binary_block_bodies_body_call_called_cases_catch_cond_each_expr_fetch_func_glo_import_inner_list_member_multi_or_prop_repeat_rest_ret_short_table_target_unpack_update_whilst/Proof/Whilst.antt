@@ -83,8 +83,8 @@ module _ (t : ℕ) where
   expr_requires : lts.Need-expr-requires (calls t) (whilst_at t) whilst.Post
   expr_requires c κs =
       let c15 = c.before.before.before.before.before.before.before.before.before.before.before.before.before.before.before in
-      let c18 = c15.before.before.before in
-      (falls_to (size c18.args.recs.now) c18.args.r _ 12 7 t c18.requires.0 (lit< tt) (child1 c18.args.recs.now c15.first.ensures), tt)
+      let c19 = c15.before.before.before.before in
+      (falls_to (size c19.args.recs.now) c19.args.r _ 12 7 t c19.requires.0 (lit< tt) (child1 c19.args.recs.now c15.first.ensures), tt)
 
   push_pop_jump_if_false_requires : lts.Need-push-pop-jump-if-false-requires (calls t) (whilst_at t) whilst.Post
   push_pop_jump_if_false_requires c κs =
@@ -92,10 +92,10 @@ module _ (t : ℕ) where
 
   expr_requires_2 : lts.Need-expr-requires-2 (calls t) (whilst_at t) whilst.Post
   expr_requires_2 c κs =
-      let c25 = c.before.before.before.before.before.before.before.before.before.before.before.before.before.before.before.before.before.before.before.before.before.before.before.before.before in
-      let c26 = c25.before in
-      let c29 = c26.before.before.before in (
-        falls_to (size c29.args.recs.now) c29.args.r _ 12 7 t c29.pre.0 (lit< tt) (child2 c29.args.recs.now c25.next.ensures (child1 c29.args.recs.now c26.first.ensures)),
+      let c27 = c.before.before.before.before.before.before.before.before.before.before.before.before.before.before.before.before.before.before.before.before.before.before.before.before.before.before.before in
+      let c28 = c27.before in
+      let c32 = c28.before.before.before.before in (
+        falls_to (size c32.args.recs.now) c32.args.r _ 12 7 t c32.pre.0 (lit< tt) (child2 c32.args.recs.now c27.next.ensures (child1 c32.args.recs.now c28.first.ensures)),
         tt,
       )
 
@@ -121,52 +121,59 @@ module _ (t : ℕ) where
 
   same_length : lts.Need-same-length (calls t) (whilst_at t) whilst.Post
   same_length c =
-      let c4 = c.before.before.before.before in
-      let c9 = c4.before.before.before.before.before in
-      let c14 = c9.before.before.before.before.before in
-      let c19 = c14.before.before.before.before.before in
-      let c24 = c19.before.before.before.before.before in
-      let c30 = c24.before.before.before.before.before.before in
-      let c35 = c30.before.before.before.before.before in
-      let c41 = c35.before.before.before.before.before.before in
-      c4.push-null.auto.0 ∙ c9.push-label2.auto.0 ∙ c14.push-jump-back-edge.auto.0 ∙ c19.push-pop.auto.0 ∙ c24.expr2.auto.1.1.0 ∙ c30.push-pop-jump-if-false.auto.0 ∙ c35.expr.auto.1.1.0 ∙ c41.push-label.auto.0
+      let c6 = c.before.before.before.before.before.before in
+      let c12 = c6.before.before.before.before.before.before in
+      let c17 = c12.before.before.before.before.before in
+      let c22 = c17.before.before.before.before.before in
+      let c29 = c22.before.before.before.before.before.before.before in
+      let c35 = c29.before.before.before.before.before.before in
+      let c42 = c35.before.before.before.before.before.before.before in
+      let c48 = c42.before.before.before.before.before.before in
+      c6.push-null.auto.1.0 ∙ c12.push-label2.auto.0 ∙ c17.push-jump-back-edge.auto.0 ∙ c22.push-pop.auto.0 ∙ c29.expr2.auto.1.1.0 ∙ c35.push-pop-jump-if-false.auto.0 ∙ c42.expr.auto.1.1.0 ∙ c48.push-label.auto.0
+
+  same_length_2 : lts.Need-same-length-2 (calls t) (whilst_at t) whilst.Post
+  same_length_2 c =
+      let c6 = c.before.before.before.before.before.before in
+      let c29 = c6.before.before.before.before.before.before.before.before.before.before.before.before.before.before.before.before.before.before.before.before.before.before.before in
+      let c42 = c29.before.before.before.before.before.before.before.before.before.before.before.before.before in
+      c6.push-null.auto.1.1.0 ∙ c29.expr2.kept.1.1.1.0 ∙ c42.expr.kept.1.1.1.0
 
   returns : lts.Need-returns (calls t) (whilst_at t) whilst.Post
   unfolding does doing exec
   returns c =
-      let c4 = c.before.before.before.before in
-      let c9 = c4.before.before.before.before.before in
-      let c14 = c9.before.before.before.before.before in
-      let c19 = c14.before.before.before.before.before in
-      let c24 = c19.before.before.before.before.before in
-      let c30 = c24.before.before.before.before.before.before in
-      let c35 = c30.before.before.before.before.before in
-      let c41 = c35.before.before.before.before.before.before in
-      let c44 = c41.before.before.before in
-      let c46 = c44.before.before in
-      let c48 = c46.before.before in
-      let c50 = c48.before.before in
-      let c51 = c50.before in
-      let c54 = c51.before.before.before in
+      let c6 = c.before.before.before.before.before.before in
+      let c12 = c6.before.before.before.before.before.before in
+      let c17 = c12.before.before.before.before.before in
+      let c22 = c17.before.before.before.before.before in
+      let c29 = c22.before.before.before.before.before.before.before in
+      let c35 = c29.before.before.before.before.before.before in
+      let c42 = c35.before.before.before.before.before.before.before in
+      let c48 = c42.before.before.before.before.before.before in
+      let c51 = c48.before.before.before in
+      let c53 = c51.before.before in
+      let c55 = c53.before.before in
+      let c57 = c55.before.before in
+      let c58 = c57.before in
+      let c62 = c58.before.before.before.before in
       record {
         sim = λ z v o₀ A h.
-            let l = label c48.get_label.ensures h in
-            let h1 = labelled c48.get_label.ensures h in
-            let m = label c46.get-label2.ensures h1 in
-            let h2 = labelled c46.get-label2.ensures h1 in
-            let h3 = given (behind _ c54.args.r A) (begun c54.args.r _ _ _ l h2 c44.begin_loop.ensures) in
-            let h4 = placed c54.args.r _ refl l c41.push-label.ensures h3 in
-            let h5 = visited z Expr c51.first.ensures c35.expr.ensures h4 in
-            let h6 = jumped c54.args.r PopJumpIfFalse _ refl m c30.push-pop-jump-if-false.ensures h5 in
-            let h7 = visited z Expr (next_of c54.args.recs.now c50.next.ensures c51.first.ensures) c24.expr2.ensures h6 in
-            let i1 = said c54.args.r Pop 0 refl refl c19.push-pop.ensures h7 in
-            let i2 = backed c54.args.r _ refl l c14.push-jump-back-edge.ensures i1 in
-            let i3 = placed c54.args.r _ refl m c9.push-label2.ensures i2 in
-            let i4 = nulled c54.args.r c4.push-null.ensures i3 in
+            let l = label c55.get_label.ensures h in
+            let h1 = labelled c55.get_label.ensures h in
+            let m = label c53.get-label2.ensures h1 in
+            let h2 = labelled c53.get-label2.ensures h1 in
+            let h3 = given (behind _ c62.args.r A) (begun c62.args.r _ _ _ l h2 c51.begin_loop.ensures) in
+            let h4 = placed c62.args.r _ refl l c48.push-label.ensures h3 in
+            let h5 = visited z Expr c58.first.ensures c42.expr.ensures h4 in
+            let h6 = jumped c62.args.r PopJumpIfFalse _ refl m c35.push-pop-jump-if-false.ensures h5 in
+            let h7 = visited z Expr (next_of c62.args.recs.now c57.next.ensures c58.first.ensures) c29.expr2.ensures h6 in
+            let i1 = said c62.args.r Pop 0 refl refl c22.push-pop.ensures h7 in
+            let i2 = backed c62.args.r _ refl l c17.push-jump-back-edge.ensures i1 in
+            let i3 = placed c62.args.r _ refl m c12.push-label2.ensures i2 in
+            let i4 = nulled c62.args.r c6.push-null.ensures i3 in
             finished c.end_loop.ensures i4;
       }
 
   pub closed : {M : Type 1} → lts.Closed (calls t) (whilst_at t) whilst.Post M
   closed = lts.spec (calls t) (whilst_at t) whilst.Post first_requires next_requires get_label_requires get_label_requires_2 begin_loop_requires
       push_label_requires expr_requires push_pop_jump_if_false_requires expr_requires_2 push_pop_requires push_jump_back_edge_requires push_label_requires_2
-      push_null_requires end_loop_requires same_length returns
+      push_null_requires end_loop_requires same_length same_length_2 returns

@@ -1,14 +1,14 @@
--- The loop passes each place once. Assumes nothing.
-use Prim.Native.Nat.{◌-◌}
+-- The loop passes each word once. Assumes nothing.
+use Prim.Native.Nat.{◌≤◌, ◌-◌}
 use borrow.Author.Rules.{rules}
-use Rattle.consts_test.proofs.part.Statement.{statement}
-use Rattle.consts_test.proofs.part.Tie as tie
+use Rattle.consts_test.proofs.words.Statement.{statement}
+use Rattle.consts_test.proofs.words.Tie as tie
 
 abbrev invariant-loop : tie.invariant-loop
-invariant-loop out from end i₀ i = Unit {0}
+invariant-loop consts i₀ i = i ≤ 51
 
 abbrev decreases-loop : tie.decreases-loop
-decreases-loop out from end i₀ i = end - i
+decreases-loop consts i₀ i = 51 - i
 
 loop_holds : tie.Need-loop-init invariant-loop decreases-loop
 loop_holds c = search rules
@@ -34,17 +34,7 @@ loop_again c = search rules
 returns : tie.Need-returns invariant-loop decreases-loop
 returns c = search rules
 
-pub part-spec : {M : Type 1} → statement M
-part-spec =
+pub words-spec : {M : Type 1} → statement M
+words-spec =
     tie.close
-    (tie.spec
-    invariant-loop
-    decreases-loop
-    loop_holds
-    mul-word
-    element-copy-out-word
-    word-requires
-    add_i
-    loop_less
-    loop_again
-    returns)
+    (tie.spec invariant-loop decreases-loop loop_holds mul-word element-copy-out-word word-requires add_i loop_less loop_again returns)
