@@ -22,7 +22,7 @@ use tables::lent::lent;
 use tables::refusal::{Broken, Checked, Refusal};
 
 // "An answer is a listing or a refusal, the refusal holding where it arose."
-#[derive(Drop)]
+#[derive(Clone, Copy)]
 pub enum Answer {
     Listing {
         lines: usize,

@@ -1,4 +1,6 @@
 // The call: the space that it asks for, the walks of the tree, and the words of each function met.
+#![tactic(auto)]
+
 pub mod call;
 mod copied;
 mod depth;

@@ -15,7 +15,7 @@ use pool::notes::Notes;
 use pool::spans::{Span, span_of};
 
 // How many words of markers and of constants are written.
-#[derive(Drop)]
+#[derive(Clone, Copy)]
 pub(crate) struct Reached {
     pub markers: usize,
     pub constants: usize,

@@ -1,5 +1,7 @@
 // Replays cases of the call: for each case of the input the lengths of the seven tables and of the five outputs, then the words of tables 1 to 7.
 // The answer is `refused` with number and place, or `listing` with its numbers and the words of the five outputs; `changed` where a word is that may not be.
+#![tactic(auto)]
+
 ghost use Rattle.std.specs.Prelude.{◌+◌, ◌<◌, ◌≤◌, length};
 
 use codegen::call::{Answer, gen_code};

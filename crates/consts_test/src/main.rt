@@ -1,4 +1,6 @@
 // Constants added one after the other; the answers and the words are those that document 01 and readings 20 and 21 give.
+#![tactic(auto)]
+
 use pool::consts::Added;
 
 // Effects 3 and 13 and Handler 20 are one; 8 differs in the variadic only, 26 in a parameter, 30 in the name.

@@ -1,4 +1,6 @@
 // Prints numbers of 64 bits, given in 16 hexadecimal digits a line: in decimal, as an Int, and as a Float's digits.
+#![tactic(auto)]
+
 use libc::{STDIN_FILENO, STDOUT_FILENO};
 use listing::read::nibble;
 use listing::text::{hex16, number, put, signed};

@@ -21,7 +21,7 @@ pub fn function_id(recs: &[u32], r: usize) -> FunctionId
 }
 
 // What the function around another goes on with.
-#[derive(Drop)]
+#[derive(Clone, Copy)]
 pub struct Outer {
     pub labels: u32,
     pub depth: u32,

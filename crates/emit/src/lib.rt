@@ -1,4 +1,6 @@
 // The run's frame and its sinks: the Rust's Context and what its `self` does. Each does nothing unless the run goes on.
+#![tactic(auto)]
+
 pub mod code;
 pub mod constant;
 pub mod error;

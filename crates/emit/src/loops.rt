@@ -7,7 +7,7 @@ use crate::label::next_label;
 use crate::word::{inc, wide};
 use opcode::index::LabelId;
 
-#[derive(Drop)]
+#[derive(Clone, Copy)]
 pub enum LabelLookup {
     Found(LabelId),
     Absent,

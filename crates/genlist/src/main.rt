@@ -1,4 +1,6 @@
 // genlist: the text of the tables on standard input; its listing, refusal or `input` on standard output.
+#![tactic(auto)]
+
 use libc::{STDERR_FILENO, STDIN_FILENO, STDOUT_FILENO};
 use lister::fronts::front_bytes;
 use lister::list::list_all;

@@ -1,4 +1,6 @@
 // Replays texts through genlist's work, one after another between lines `====`: prints the answer to each, with the same line between.
+#![tactic(auto)]
+
 use libc::{STDIN_FILENO, STDOUT_FILENO};
 use lister::fronts::front_bytes;
 use lister::list::list_all;

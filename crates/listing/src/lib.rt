@@ -1,4 +1,6 @@
 // genlist's work on slices: its text read into tables, and what it prints, as bytes in a lent buffer.
+#![tactic(auto)]
+
 pub mod print;
 pub mod read;
 pub mod text;

@@ -11,7 +11,7 @@ const BYTES: usize = 4096;
 const LAST: usize = 18446744073709551615;
 
 // How many words of each table were read, and how many bytes.
-#[derive(Drop)]
+#[derive(Clone, Copy)]
 pub struct Sizes {
     pub strings: usize,
     pub bytes: usize,
@@ -23,35 +23,35 @@ pub struct Sizes {
 }
 
 // The tables, or the number of the line that can't be read.
-#[derive(Drop)]
+#[derive(Clone, Copy)]
 pub enum Reading {
     Tables(Sizes),
     Input(usize),
 }
 
 // The value of a run of digits, if it is one word.
-#[derive(Drop)]
+#[derive(Clone, Copy)]
 pub enum Number {
     Value(u32),
     Malformed,
 }
 
 // The byte of two hexadecimal digits.
-#[derive(Drop)]
+#[derive(Clone, Copy)]
 pub enum Octet {
     Byte(u8),
     Broken,
 }
 
 // How many bytes are held with a string's, if it could be read.
-#[derive(Drop)]
+#[derive(Clone, Copy)]
 enum Held {
     Bytes(usize),
     Unread,
 }
 
 // Where the next line begins and its number; once `good` is false, the number of the line that can't be read.
-#[derive(Drop)]
+#[derive(Clone, Copy)]
 struct Place {
     at: usize,
     line: usize,
@@ -59,14 +59,14 @@ struct Place {
 }
 
 // How much of a table was read, and the place after it.
-#[derive(Drop)]
+#[derive(Clone, Copy)]
 struct Part {
     used: usize,
     place: Place,
 }
 
 // The same for table 1, with the bytes of its strings.
-#[derive(Drop)]
+#[derive(Clone, Copy)]
 struct Texts {
     used: usize,
     held: usize,

@@ -91,7 +91,7 @@ fn width(n: u64, powers: &[u64; 20]) -> usize
 }
 
 // A number's first digit, and what is left of it.
-#[derive(Drop)]
+#[derive(Clone, Copy)]
 struct Lead {
     digit: u8,
     rest: u64,

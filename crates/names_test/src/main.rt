@@ -1,4 +1,6 @@
 // Replays cases of the name tables: for each case of the input seven lengths and the words of tables 1 to 7, written back as each function's names.
+#![tactic(auto)]
+
 ghost use Rattle.std.specs.Prelude.{◌≤◌, ◌<◌, length};
 
 use libc::{STDIN_FILENO, STDOUT_FILENO};
@@ -6,7 +8,7 @@ use pool::resolve::resolve;
 use pool::spans::span_of;
 use tables::semantic::{entry, pairs};
 
-#[derive(Drop)]
+#[derive(Clone, Copy)]
 struct Read {
     value: u32,
     next: usize,

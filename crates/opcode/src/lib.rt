@@ -1,4 +1,6 @@
 // The numberings, the opcodes and what the operators become: the leaves that every layer above stands on.
+#![tactic(auto)]
+
 pub mod index;
 pub mod member;
 pub mod opcode;

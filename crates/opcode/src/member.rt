@@ -5,7 +5,7 @@ ghost use Rattle.opcode.specs.Members.{member_kind, get_of, set_of};
 use crate::opcode::OpCode;
 
 // The expression or name that the first three hold is a child of the record.
-#[derive(Drop)]
+#[derive(Clone, Copy)]
 pub enum MemberKind {
     Bracket,
     Dot,
@@ -15,7 +15,7 @@ pub enum MemberKind {
     DoubleColonMeta,
 }
 
-#[derive(Drop)]
+#[derive(Clone, Copy)]
 pub enum MemberLookup {
     Found(MemberKind),
     Absent,

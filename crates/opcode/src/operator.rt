@@ -4,13 +4,13 @@ ghost use Rattle.opcode.specs.Operators.{bin_op, un_op, from_bin_op, from_un_op}
 
 use crate::opcode::OpCode;
 
-#[derive(Drop)]
+#[derive(Clone, Copy)]
 pub enum UnOp {
     Not,
     Neg,
 }
 
-#[derive(Drop)]
+#[derive(Clone, Copy)]
 pub enum BinOp {
     Add,
     Sub,
@@ -28,19 +28,19 @@ pub enum BinOp {
     Is,
 }
 
-#[derive(Drop)]
+#[derive(Clone, Copy)]
 pub enum UnOpLookup {
     Found(UnOp),
     Absent,
 }
 
-#[derive(Drop)]
+#[derive(Clone, Copy)]
 pub enum BinOpLookup {
     Found(BinOp),
     Absent,
 }
 
-#[derive(Drop)]
+#[derive(Clone, Copy)]
 pub enum OpCodeLookup {
     Found(OpCode),
     Absent,

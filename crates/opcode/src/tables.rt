@@ -5,19 +5,19 @@ ghost use Rattle.opcode.specs.Names.{name, name_len};
 
 use crate::opcode::OperandKind;
 
-#[derive(Drop)]
+#[derive(Clone, Copy)]
 pub enum NameLen {
     Found(usize),
     Absent,
 }
 
-#[derive(Drop)]
+#[derive(Clone, Copy)]
 pub enum KindLookup {
     Found(OperandKind),
     Absent,
 }
 
-#[derive(Drop)]
+#[derive(Clone, Copy)]
 pub enum TargetLookup {
     Found(bool),
     Absent,

@@ -1,5 +1,7 @@
 // Prints what the crate answers at every number from 0 to 53. `python3 tools/opcode_stdout.py DIR` made `stdout` from the
 // text of the Rust in DIR: `opcode.rs`, `codegen.rs`, `ast/operator.rs` and `ast/member.rs`.
+#![tactic(auto)]
+
 mod sample;
 
 use opcode::member::{MemberKind, MemberLookup};

@@ -10,7 +10,7 @@ use emit::op::push_pop;
 use emit::word::inc;
 use opcode::index::LabelId;
 
-#[derive(Drop)]
+#[derive(Clone, Copy)]
 pub struct CleanStack {
     pub first: LabelId,
     pub taken: u32,

@@ -1,4 +1,6 @@
 // What of the arms visits no expression: leaves of the cycle of visitors.
+#![tactic(auto)]
+
 pub mod assign;
 pub mod children;
 pub mod import;

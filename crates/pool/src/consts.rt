@@ -6,7 +6,7 @@ ghost use Rattle.pool.specs.Consts.{words, at, const_of, entry, table, room, put
 use crate::effect::same_effect;
 
 // A constant's three words.
-#[derive(Drop)]
+#[derive(Clone, Copy)]
 pub struct ConstWords {
     pub kind: u32,
     pub low: u32,
@@ -14,7 +14,7 @@ pub struct ConstWords {
 }
 
 // Where a constant stands, and how many the table then counts.
-#[derive(Drop)]
+#[derive(Clone, Copy)]
 pub enum Added {
     At { index: usize, count: usize },
     // The lent words have no room: the value is counted and not written.

@@ -1,4 +1,6 @@
 // The tables between: constants and names, what the generator looks things up in.
+#![tactic(auto)]
+
 pub mod consts;
 pub mod effect;
 pub mod lookup;

@@ -11,26 +11,26 @@ use opcode::index::{GlobalNameId, LocalNameId, UpvalueNameId};
 use tables::refusal::RunRule;
 use tables::semantic::{symbol_kind, symbol_of};
 
-#[derive(Drop)]
+#[derive(Clone, Copy)]
 pub enum LocalLookup {
     Found(LocalNameId),
     Absent,
 }
 
-#[derive(Drop)]
+#[derive(Clone, Copy)]
 pub enum GlobalLookup {
     Found(GlobalNameId),
     Absent,
 }
 
-#[derive(Drop)]
+#[derive(Clone, Copy)]
 pub enum UpvalueLookup {
     Found(UpvalueNameId),
     Absent,
 }
 
 // What a load or a store comes to.
-#[derive(Drop)]
+#[derive(Clone, Copy)]
 pub enum Access {
     Local(LocalNameId),
     Global(GlobalNameId),

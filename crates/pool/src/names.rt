@@ -12,7 +12,7 @@ use opcode::index::{LocalNameId, UpvalueNameId};
 use tables::semantic::entry;
 
 // What a symbol of a function is there; a captured one is in the parent's table.
-#[derive(Drop)]
+#[derive(Clone, Copy)]
 pub enum Class {
     Local,
     Global,
@@ -21,7 +21,7 @@ pub enum Class {
 }
 
 // The table that a symbol goes to, and its entry's capture and index.
-#[derive(Drop)]
+#[derive(Clone, Copy)]
 pub struct Slot {
     pub table: u32,
     pub capture: u32,

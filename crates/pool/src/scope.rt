@@ -35,7 +35,7 @@ pub const GLOBALS: u32 = 2;
 pub const UPVALUES: u32 = 3;
 
 // What a search answers.
-#[derive(Drop)]
+#[derive(Clone, Copy)]
 pub enum Found {
     At(u32),
     Absent,

@@ -4,7 +4,7 @@ ghost use Rattle.pool.specs.NameWords.{span_of, put_span};
 
 use tables::semantic::entry;
 
-#[derive(Drop)]
+#[derive(Clone, Copy)]
 pub struct Span {
     pub start: u32,
     pub locals: u32,

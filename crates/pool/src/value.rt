@@ -5,7 +5,7 @@ ghost use Rattle.pool.specs.ConstValues.{words_of, lit_of};
 use crate::consts::{ConstWords, three};
 use opcode::index::FunctionId;
 
-#[derive(Drop)]
+#[derive(Clone, Copy)]
 pub enum ConstValue {
     Null,
     Bool(u32),

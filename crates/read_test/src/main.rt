@@ -1,4 +1,6 @@
 // Replays genlist's texts, one after another between lines `====`: prints the line that can't be read, or the words of the tables.
+#![tactic(auto)]
+
 use libc::{STDIN_FILENO, STDOUT_FILENO};
 use listing::read::{Reading, read};
 

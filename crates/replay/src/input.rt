@@ -6,7 +6,7 @@ use crate::print::text;
 use libc::STDIN_FILENO;
 
 // How many words were read; or they are none, or too many, or too long an input.
-#[derive(Drop)]
+#[derive(Clone, Copy)]
 pub enum Input {
     Words(usize),
     Unreadable,
@@ -15,7 +15,7 @@ pub enum Input {
 const WORD: u64 = 4294967295;
 
 // What was read so far: how many words, the number that is begun if one is, whether all could be read, and the bytes of the last reading.
-#[derive(Drop)]
+#[derive(Clone, Copy)]
 struct Scan {
     count: usize,
     value: u64,

@@ -10,7 +10,7 @@ use crate::ast::{detail, first, kind, next, next_word, p, size};
 use crate::refusal::Broken;
 
 // What a child may be: an expr, a pattern, or one kind.
-#[derive(Drop)]
+#[derive(Clone, Copy)]
 pub enum Class {
     Expr,
     Pattern,

@@ -1,4 +1,6 @@
 // The tables below: lent words with total accessors, and the rules that they must keep.
+#![tactic(auto)]
+
 pub mod ast;
 pub mod check;
 pub mod children;

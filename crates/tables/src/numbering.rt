@@ -13,7 +13,7 @@ use crate::scratch::wide;
 use crate::{ast, scratch};
 
 // How a record's children are visited.
-#[derive(Drop)]
+#[derive(Clone, Copy)]
 pub enum Manner {
     Stored,
     RightFirst,

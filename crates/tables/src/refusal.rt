@@ -3,7 +3,7 @@ ghost use Rattle.std.specs.Prelude.{◌≡◌};
 ghost use Rattle.tables.specs.Refusal.{run_number, rule_of, number_of, place_of};
 
 // The rules that a record breaks: numbers 4 to 9.
-#[derive(Drop)]
+#[derive(Clone, Copy)]
 pub enum RecordRule {
     Detail,
     Link,
@@ -14,7 +14,7 @@ pub enum RecordRule {
 }
 
 // The rules that a run meets broken: numbers 10 to 16.
-#[derive(Drop)]
+#[derive(Clone, Copy)]
 pub enum RunRule {
     Reference,
     Load,
@@ -26,7 +26,7 @@ pub enum RunRule {
 }
 
 // A refusal holds where it arose: a lent table, an output space, a table's entry, a record, or a record met in the run.
-#[derive(Drop)]
+#[derive(Clone, Copy)]
 pub enum Refusal {
     Table(usize),
     Space(usize),
@@ -36,14 +36,14 @@ pub enum Refusal {
 }
 
 // What a check of the lent tables answers.
-#[derive(Drop)]
+#[derive(Clone, Copy)]
 pub enum Checked {
     Accepted,
     Refused(Refusal),
 }
 
 // The first place at which a rule is broken.
-#[derive(Drop)]
+#[derive(Clone, Copy)]
 pub enum Broken {
     Nowhere,
     At(usize),

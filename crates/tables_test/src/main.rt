@@ -1,4 +1,6 @@
 // Replays cases of the checks: for each case of the input seven lengths and the words of tables 1 to 7, answered by `ok` or a refusal's number and place.
+#![tactic(auto)]
+
 ghost use Rattle.std.specs.Prelude.{◌+◌, ◌≤◌, length};
 
 use replay::case::{front, front_bytes, narrow, rest, start, table};

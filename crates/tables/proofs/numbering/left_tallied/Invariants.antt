@@ -1,0 +1,11 @@
+use Prim.Native.Nat.{◌≤◌}
+use Rattle.tables.specs.Record.{size}
+use Rattle.tables.specs.Counting.{tally_left}
+use Rattle.tables.proofs.CountLaws.{Down}
+use Rattle.tables.proofs.numbering.left_tallied.Given as goal
+
+abbrev pub invariant-loop-i : goal.invariant-loop-i
+invariant-loop-i l = (l.i ≤ size l.recs) × Down tally_left l.recs l.i l.a
+
+abbrev pub decreases-loop-i : goal.decreases-loop-i
+decreases-loop-i l = l.i
