@@ -8,7 +8,7 @@ use Rattle.listing.proofs.print.codes.Goals as goal
 pub loop-i-preserved : goal.loop-i-preserved
 loop-i-preserved c = (
   omega arith,
-  c.code_row-to.auto.0 ∙ c.loop-i.invariant.1,
+  c.code_row-to.auto.out ∙ c.loop-i.invariant.1,
   rows_next (code_at c.args.function
       c.args.markers.now)
       c.args.count

@@ -8,7 +8,7 @@ use Rattle.listing.proofs.print.consts.Goals as goal
 pub loop-i-preserved : goal.loop-i-preserved
 loop-i-preserved c = (
   omega arith,
-  c.const_row-to.auto.0 ∙ c.loop-i.invariant.1,
+  c.const_row-to.auto.out ∙ c.loop-i.invariant.1,
   rows_next (const_at c.args.function
       c.args.constants.now)
       c.args.count

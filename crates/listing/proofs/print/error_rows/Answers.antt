@@ -8,7 +8,7 @@ use Rattle.listing.proofs.print.error_rows.Goals as goal
 pub loop-i-preserved : goal.loop-i-preserved
 loop-i-preserved c = (
   omega arith,
-  c.error_row-to.auto.0 ∙ c.loop-i.invariant.1,
+  c.error_row-to.auto.out ∙ c.loop-i.invariant.1,
   rows_next (error_at c.args.errors.now)
       c.args.count
       c.loop-i.i (omega arith)

@@ -12,7 +12,7 @@ loop-f-preserved c = let a = c.args in
       omega (arith, c.skip-m.ensures),
       omega (arith, c.skip-k.ensures),
       omega (arith, c.skip-n.ensures),
-      c.function_rows-to.auto.0 ∙ p.invariant.4,
+      c.function_rows-to.auto.out ∙ p.invariant.4,
       functions_next a.count p.f a.symbols.now a.recs.now
           (drop (p.f * 7) a.lines.now) (drop p.m a.markers.now) (drop p.k a.constants.now) (drop p.n a.names.now)
           (drop ((p.f + 1) * 7) a.lines.now) (drop c.skip-m.result a.markers.now) (drop

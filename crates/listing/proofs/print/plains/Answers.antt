@@ -8,7 +8,7 @@ use Rattle.listing.proofs.print.plains.Goals as goal
 pub loop-i-preserved : goal.loop-i-preserved
 loop-i-preserved c = (
   omega arith,
-  c.plain_row-to.auto.0 ∙ c.loop-i.invariant.1,
+  c.plain_row-to.auto.out ∙ c.loop-i.invariant.1,
   rows_next (plain_at c.args.function
       c.args.section.now
       c.args.symbols.now

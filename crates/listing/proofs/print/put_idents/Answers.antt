@@ -16,7 +16,7 @@ returns-then-n-eq0 c = rest_last (rest_same (idents_last c.loop-left.left
 
 pub loop-left-preserved : goal.loop-left-preserved
 loop-left-preserved c = (
-  c.put-to.auto.0 ∙ c.number-to.auto.0
+  c.put-to.auto.out ∙ c.number-to.auto.out
       ∙ c.loop-left.invariant.0,
   rest_after (rest_same (idents_more c.loop-left.left
       c.args.recs.now

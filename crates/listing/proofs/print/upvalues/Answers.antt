@@ -8,7 +8,7 @@ use Rattle.listing.proofs.print.upvalues.Goals as goal
 pub loop-i-preserved : goal.loop-i-preserved
 loop-i-preserved c = (
   omega arith,
-  c.upvalue_row-to.auto.0 ∙ c.loop-i.invariant.1,
+  c.upvalue_row-to.auto.out ∙ c.loop-i.invariant.1,
   rows_next (upvalue_at c.args.function
       c.args.names.now)
       c.args.count

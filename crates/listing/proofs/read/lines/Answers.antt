@@ -16,7 +16,7 @@ pub returns-then-end-at : goal.returns-then-end-at
 returns-then-end-at c =
     let a = c.args in
     let p = c.loop-at in
-    let g = not-false _ (ap not c.if-not-from.false) in
+    let g = not-false _ c.if-not-from.false in
     listed g (omega arith) (λ i. p.invariant.2) (ends_at c.after.ensures
     (at_blank a.text.now a.count a.most (length a.out.now) a.last a.from.at a.from.line p.at p.line p.used p.out
     (omega arith) p.invariant.3 (omega arith) _ c.line_end-end.ensures c.if-end-at.true))
@@ -25,7 +25,7 @@ pub returns-then-most-used : goal.returns-then-most-used
 returns-then-most-used c =
     let a = c.args in
     let p = c.loop-at in
-    let g = not-false _ (ap not c.if-not-from.false) in
+    let g = not-false _ c.if-not-from.false in
     listed g (omega arith) (λ i. p.invariant.2) (ends_at c.stopped.ensures
     (at_most a.text.now a.count a.most (length a.out.now) a.last a.from.at a.from.line p.at p.line p.used p.out
     (omega arith) p.invariant.3 (omega arith) _ c.line_end-end.ensures c.if-end-at.false (omega arith)))
@@ -41,7 +41,7 @@ pub returns-then-not-values : goal.returns-then-not-values
 returns-then-not-values c =
     let a = c.args in
     let p = c.loop-at in
-    let g = not-false _ (ap not c.if-not-from.false) in
+    let g = not-false _ c.if-not-from.false in
     listed g (omega arith) (λ i. absurd (true≢false (sym i ∙ ap (λ (z : Place). z.good) c.stopped-then-not-values.ensures))) (ends_at c.stopped-then-not-values.ensures
     (refused a.text.now a.count a.most (length a.out.now) a.last a.from.at a.from.line p.at p.line p.used p.out
     (omega arith) p.invariant.3 _ _ (omega arith) c.line_end-end.ensures (omega arith) (omega arith) (stored_as

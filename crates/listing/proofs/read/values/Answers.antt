@@ -28,12 +28,10 @@ pub slice_bounds-decimal-end : goal.slice_bounds-decimal-end
 slice_bounds-decimal-end c =
     let a = c.args in
     let p = c.loop-k in
-    let s = c.spaces_end-begin in
-    let d = c.digits_end-end in
     omega (
       arith,
       gap_end_le p.k a.line.now p.at (omega arith),
-      end_le is_digit a.line.now s.result (omega (
+      end_le is_digit a.line.now c.spaces_end-begin.result (omega (
         arith,
         gap_end_le p.k a.line.now
             p.at (omega arith),
@@ -44,9 +42,7 @@ pub returns-in_default : goal.returns-in_default
 returns-in_default c =
     let a = c.args in
     let p = c.loop-k in
-    let s = c.spaces_end-begin in
-    let d = c.digits_end-end in
-    let w = stops a.line.now p.out a.count a.from p.k p.at s.result d.result _ _ s.ensures d.ensures (omega arith)
+    let w = stops a.line.now p.out a.count a.from p.k p.at c.spaces_end-begin.result c.digits_end-end.result _ _ c.spaces_end-begin.ensures c.digits_end-end.ensures (omega arith)
     c.decimal-number.ensures p.invariant.5 c.in_default.is in
     record { room = λ e. absurd (false≢true e); stored = λ h. w; before = p.invariant.4; past = λ e. absurd (false≢true e) }
 
@@ -54,12 +50,11 @@ pub loop-k-preserved : goal.loop-k-preserved
 loop-k-preserved c =
     let a = c.args in
     let p = c.loop-k in
-    let s = c.spaces_end-begin in
-    let d = c.digits_end-end in (
+    (
       omega (
         arith,
         gap_end_le p.k a.line.now p.at (omega arith),
-        end_le is_digit a.line.now s.result (omega (
+        end_le is_digit a.line.now c.spaces_end-begin.result (omega (
           arith,
           gap_end_le p.k
               a.line.now p.at (omega arith),
@@ -69,7 +64,7 @@ loop-k-preserved c =
       length-set p.out _ _ ∙ p.invariant.2,
       omega arith,
       stored_before p.out a.from p.k _ ∙ p.invariant.4,
-      again a.line.now p.out a.count a.from p.k p.at s.result d.result _ _ s.ensures d.ensures (omega arith)
+      again a.line.now p.out a.count a.from p.k p.at c.spaces_end-begin.result c.digits_end-end.result _ _ c.spaces_end-begin.ensures c.digits_end-end.ensures (omega arith)
           c.decimal-number.ensures p.invariant.5 _ (omega arith) (let g = c.in-Value.known_told-1-own.given in search rules),
       drop-set-lt (a.from + a.count) p.out _ _ (omega arith) ∙ p.invariant.6,
     )

@@ -14,11 +14,11 @@ loop-i-preserved c =
     let l = c.loop-i in
     let i : 0 < l.i = c.loop-i-test.true in
     let p = c.powers-list.ensures.at (l.i - 1) (omega arith) in
-    let d = c.leading-l in (
+    (
       omega arith,
-      omega (arith, d.ensures.less, p),
-      c.put-to.auto.0 ∙ l.invariant.2,
-      long_next l.i l.rest _ d.result.digit d.result.rest i p d.ensures l.invariant.3 c.put-to.ensures,
+      omega (arith, c.leading-l.ensures.less, p),
+      c.put-to.auto.out ∙ l.invariant.2,
+      long_next l.i l.rest _ c.leading-l.result.digit c.leading-l.result.rest i p c.leading-l.ensures l.invariant.3 c.put-to.ensures,
     )
 
 pub returns : goal.returns

@@ -15,7 +15,7 @@ pub loop-i-preserved : goal.loop-i-preserved
 loop-i-preserved c = (
   omega arith,
   c.loop-i.invariant.1,
-  c.put-to.auto.0
+  c.put-to.auto.out
       ∙ c.loop-i.invariant.2,
   more (name
       c.args.code)

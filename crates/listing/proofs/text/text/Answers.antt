@@ -10,7 +10,7 @@ loop-i-init c = (omega arith, refl, nothing)
 pub loop-i-preserved : goal.loop-i-preserved
 loop-i-preserved c = (
   omega arith,
-  c.put-to.auto.0 ∙ c.loop-i.invariant.1,
+  c.put-to.auto.out ∙ c.loop-i.invariant.1,
   more
       c.args.bytes.now
       c.loop-i.i _ (omega arith) refl c.loop-i.invariant.2

@@ -15,17 +15,15 @@ pub returns-then-consts-i : goal.returns-then-consts-i
 returns-then-consts-i c =
     let a = c.args in
     let w = c.loop-i in
-    let same_Const = c.same_const in
     sought_past a.records.now a.consts.now a.n a.kind a.low a.high w.i w.invariant (omega arith) c.if-consts-i.true
-    (sym c.if-same_const.false ∙ same_Const.ensures)
+    (sym c.if-same_const.false ∙ c.same_const.ensures)
 
 pub loop-i-preserved : goal.loop-i-preserved
 loop-i-preserved c =
     let a = c.args in
     let w = c.loop-i in
-    let same_Const = c.same_const in
     sought_miss a.records.now a.consts.now a.n a.kind a.low a.high w.i w.invariant (omega arith)
-    (sym c.if-same_const.false ∙ same_Const.ensures)
+    (sym c.if-same_const.false ∙ c.same_const.ensures)
 
 pub returns : goal.returns
 returns c =

@@ -8,20 +8,14 @@ returns-then-a-kind c = other_kind c.args.records.now _ _ _ _ _ _ c.if-a-kind.tr
 pub returns-then-kind-eq7 : goal.returns-then-kind-eq7
 returns-then-kind-eq7 c =
     let a = c.args in
-    let if1 = c.if-a-kind in
-    let if2 = c.if-kind-eq7 in
-    c.same_effect.ensures ∙ both_effects a.records.now _ _ _ _ _ _ if1.false if2.true
+    c.same_effect.ensures ∙ both_effects a.records.now _ _ _ _ _ _ c.if-a-kind.false c.if-kind-eq7.true
 
 pub returns-then-a-low : goal.returns-then-a-low
 returns-then-a-low c =
     let a = c.args in
-    let if1 = c.if-a-kind in
-    let if2 = c.if-kind-eq7 in
-    other_low a.records.now _ _ _ _ _ _ if1.false if2.false c.if-a-low.true
+    other_low a.records.now _ _ _ _ _ _ c.if-a-kind.false c.if-kind-eq7.false c.if-a-low.true
 
 pub returns : goal.returns
 returns c =
     let a = c.args in
-    let if1 = c.if-a-kind in
-    let if2 = c.if-kind-eq7 in
-    by_high a.records.now _ _ _ _ _ _ if1.false if2.false c.if-a-low.false
+    by_high a.records.now _ _ _ _ _ _ c.if-a-kind.false c.if-kind-eq7.false c.if-a-low.false

@@ -12,14 +12,11 @@ returns-then-params-eq0 c =
 pub returns-then-kind-eq30 : goal.returns-then-kind-eq30
 returns-then-kind-eq30 c =
     let a = c.args in
-    let if1 = c.if-params-eq0 in
     names_none a.records.now 0 refl ∙ sym
-    (below_function a.records.now a.params if1.false (sym c.kind.ensures ∙ c.if-kind-eq30.true))
+    (below_function a.records.now a.params c.if-params-eq0.false (sym c.kind.ensures ∙ c.if-kind-eq30.true))
 
 pub returns : goal.returns
 returns c =
     let a = c.args in
-    let if1 = c.if-params-eq0 in
-    let kind = c.kind in
     ap (λ (l : ℕ). names_from a.records.now l) c.first.ensures ∙ sym
-    (below_other a.records.now a.params if1.false (λ e. c.if-kind-eq30.false (kind.ensures ∙ e)))
+    (below_other a.records.now a.params c.if-params-eq0.false (λ e. c.if-kind-eq30.false (c.kind.ensures ∙ e)))

@@ -16,9 +16,7 @@ returns-then-q c =
     let a = c.args in
     let w = c.loop-x in
     let test = c.loop-x-test in
-    let if1 = c.if-y-eq0 in
-    let q = c.q in
-    alike_other a.records.now _ _ test.true if1.false (λ e. c.if-q.true (q.ensures ∙ e ∙ sym c.q-in-loop-x.ensures)) ∙ w.invariant
+    alike_other a.records.now _ _ test.true c.if-y-eq0.false (λ e. c.if-q.true (c.q.ensures ∙ e ∙ sym c.q-in-loop-x.ensures)) ∙ w.invariant
 
 pub loop-x-smaller : goal.loop-x-smaller
 loop-x-smaller c =
@@ -31,12 +29,8 @@ loop-x-preserved c =
     let a = c.args in
     let w = c.loop-x in
     let test = c.loop-x-test in
-    let if1 = c.if-y-eq0 in
-    let q = c.q in
-    let q2 = c.q-in-loop-x in
-    let if2 = c.if-q in
     ap₂ (λ (x y : ℕ). same_list_lem (names_from a.records.now x) (names_from a.records.now y)) c.next-x.ensures c.next-y.ensures ∙
-    alike_next a.records.now _ _ test.true if1.false (sym q.ensures ∙ if2.false ∙ q2.ensures) ∙ w.invariant
+    alike_next a.records.now _ _ test.true c.if-y-eq0.false (sym c.q.ensures ∙ c.if-q.false ∙ c.q-in-loop-x.ensures) ∙ w.invariant
 
 pub returns : goal.returns
 returns c = alike_end c.args.records.now _ _ c.loop-x-test.false ∙ c.loop-x.invariant

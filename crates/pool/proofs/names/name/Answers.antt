@@ -11,7 +11,7 @@ pass-upvalues-requires c =
 
 pub pass-end-requires : goal.pass-end-requires
 pass-end-requires c =
-    let ok = c.span_of-start.type-inv in omega (
+    let ok = c.span_of-start.type_inv in omega (
       arith,
       c.pass-globals.ensures.place,
       c.pass-upvalues.ensures.place,
@@ -35,12 +35,15 @@ overflow_cast-end c =
 
 pub returns-then-share-le1024 : goal.returns-then-share-le1024
 returns-then-share-le1024 c =
-    record { words = all_laid (class_in c.args.symbols.now c.args.scope.now) c.args.share.now c.args.entries.now _ _ _ _ _ _ _ c.pass-globals.ensures.words c.pass-globals.ensures.place c.pass-upvalues.ensures.words c.pass-upvalues.ensures.place c.pass-end.ensures.words
+    record {
+      words = all_laid (class_in c.args.symbols.now c.args.scope.now) c.args.share.now c.args.entries.now _ _ _ _ _ _ _ c.pass-globals.ensures.words c.pass-globals.ensures.place c.pass-upvalues.ensures.words c.pass-upvalues.ensures.place c.pass-end.ensures.words
           c.pass-end.ensures.place c.if-share-le1024.true
-          ∙ ap (λ (s : Span). entries_named (class_in c.args.symbols.now c.args.scope.now) c.args.share.now c.args.entries.now s.start) c.span_of-start.ensures; span = span_laid (class_in c.args.symbols.now c.args.scope.now) c.args.share.now c.args.entries.now _ _ _ _ _ _ _ c.pass-globals.ensures.words
+          ∙ ap (λ (s : Span). entries_named (class_in c.args.symbols.now c.args.scope.now) c.args.share.now c.args.entries.now s.start) c.span_of-start.ensures;
+      span = span_laid (class_in c.args.symbols.now c.args.scope.now) c.args.share.now c.args.entries.now _ _ _ _ _ _ _ c.pass-globals.ensures.words
           c.pass-globals.ensures.place c.pass-upvalues.ensures.words c.pass-upvalues.ensures.place c.pass-end.ensures.words
-          c.pass-end.ensures.place c.if-share-le1024.true c.args.spans.now _ c.args.f _ (ap (λ (s : Span). s.start) c.span_of-start.ensures) c.put_span.ensures }
+          c.pass-end.ensures.place c.if-share-le1024.true c.args.spans.now _ c.args.f _ (ap (λ (s : Span). s.start) c.span_of-start.ensures) c.put_span.ensures;
+    }
 
 pub returns-else-share-le1024 : goal.returns-else-share-le1024
 returns-else-share-le1024 c =
-    none_laid (class_in c.args.symbols.now c.args.scope.now) c.args.share.now c.args.entries.now c.args.spans.now _ c.args.f c.if-share-le1024.false
+    let both = none_laid (class_in c.args.symbols.now c.args.scope.now) c.args.share.now c.args.entries.now c.args.spans.now _ c.args.f c.if-share-le1024.false in record { words = both.0; span = both.1 }

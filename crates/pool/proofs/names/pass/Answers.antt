@@ -6,12 +6,11 @@ use native.Mathlib.Omega.{arith}
 use Rattle.pool.proofs.names.pass.Goals as goal
 
 pub loop-i-init : goal.loop-i-init
-loop-i-init c =
-    (
-      omega arith,
-      refl,
-      pass_start c.args.table (class_in c.args.symbols.now c.args.scope.now) c.args.share.now c.args.entries.now c.args.n,
-    )
+loop-i-init c = (
+  omega arith,
+  refl,
+  pass_start c.args.table (class_in c.args.symbols.now c.args.scope.now) c.args.share.now c.args.entries.now c.args.n,
+)
 
 pub step-at-requires : goal.step-at-requires
 step-at-requires c =
@@ -22,9 +21,8 @@ step-at-requires c =
     )
 
 pub loop-i-preserved : goal.loop-i-preserved
-loop-i-preserved c =
-    (
-      omega arith,
-      c.step-at.auto.1.1.0 ∙ c.loop-i.invariant.1,
-      pass_more c.args.table (class_in c.args.symbols.now c.args.scope.now) c.args.share.now c.args.entries.now c.args.n _ _ _ _ _ c.loop-i-test.true c.loop-i.invariant.2 c.step-at.ensures.words c.step-at.ensures.place,
-    )
+loop-i-preserved c = (
+  omega arith,
+  c.step-at.auto.entries ∙ c.loop-i.invariant.1,
+  pass_more c.args.table (class_in c.args.symbols.now c.args.scope.now) c.args.share.now c.args.entries.now c.args.n _ _ _ _ _ c.loop-i-test.true c.loop-i.invariant.2 c.step-at.ensures.words c.step-at.ensures.place,
+)

@@ -7,7 +7,7 @@ use Rattle.pool.proofs.notes.store_of.Goals as goal
 pub returns-then-r-lt-RECORDS : goal.returns-then-r-lt-RECORDS
 unfolding store_noted
 returns-then-r-lt-RECORDS c =
-    c.IsStore-access.ensures ∙ sym (on_true _ _ _ (lt-ltb _ _ c.if-r-lt-RECORDS.true))
+    c.store_access.ensures ∙ sym (on_true _ _ _ (lt-ltb _ _ c.if-r-lt-RECORDS.true))
 
 pub returns : goal.returns
 unfolding store_noted
