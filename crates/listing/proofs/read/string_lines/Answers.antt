@@ -54,11 +54,11 @@ pub loop-at-preserved : goal.loop-at-preserved
 loop-at-preserved c =
     let a = c.args in
     let p = c.loop-at in
-    let k : c.string_entry.result ≡ Bytes c.in-Bytes.n = let g = c.in-Bytes.known_told-1-own.given in search rules in
+    let k : c.string_entry.result ≡ Bytes c.in-Bytes.n = c.in-Bytes.is in
     let f = further1 a.text.now (length a.strings.now) (length a.bytes.now) a.from.at a.from.line p.at p.line p.used p.held
     p.strings p.bytes (omega arith) p.invariant.7 _ _ _ _ _ (omega arith)
     c.line_end-end.ensures (omega arith)
-    (omega arith) p.invariant.3 c.string_entry.ensures k p.invariant.1 p.invariant.2 c.string_entry.auto.1.1.1.0 in
+    (omega arith) p.invariant.3 c.string_entry.ensures k p.invariant.1 p.invariant.2 c.string_entry.auto.bytes in
     let z = entered_past _ p.strings p.used p.bytes p.held _ _ c.string_entry.result _ c.string_entry.ensures k in (
       omega arith,
       search rules,

@@ -49,8 +49,7 @@ returns-in_default c =
 pub loop-k-preserved : goal.loop-k-preserved
 loop-k-preserved c =
     let a = c.args in
-    let p = c.loop-k in
-    (
+    let p = c.loop-k in (
       omega (
         arith,
         gap_end_le p.k a.line.now p.at (omega arith),

@@ -13,8 +13,7 @@ pub loop-i-preserved : goal.loop-i-preserved
 loop-i-preserved c =
     let l = c.loop-i in
     let i : 0 < l.i = c.loop-i-test.true in
-    let p = c.powers-list.ensures.at (l.i - 1) (omega arith) in
-    (
+    let p = c.powers-list.ensures.at (l.i - 1) (omega arith) in (
       omega arith,
       omega (arith, c.leading-l.ensures.less, p),
       c.put-to.auto.out ∙ l.invariant.2,
