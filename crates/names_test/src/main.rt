@@ -8,6 +8,7 @@ use pool::spans::span_of;
 use tables::semantic::{entry, pairs};
 
 const STDIN_FILENO: i32 = 0;
+
 const STDOUT_FILENO: i32 = 1;
 
 #[derive(Clone, Copy)]
