@@ -1,4 +1,3 @@
--- A division instead of a product, which could overflow. Assumes nothing.
 use mathlib.Core.Path.{◌≡◌, refl}
 use mathlib.Core.Bool.{Bool, true, false}
 use Prim.Native.Nat.{ℕ, ◌*◌, ◌/◌, ◌<◌}
@@ -6,10 +5,9 @@ use native.Mathlib.Nat.{div-lt_iff_lt-mul, le-div_iff_mul-le}
 use lib.Dec.{ltb}
 use borrow.Author.Tests.{lt-ltb, le-ltb, ltb-true, ltb-false}
 use Rattle.codegen.specs.Space.{scarce}
-use borrow.Author.Rules.{rules}
-use Rattle.codegen.proofs.space.scarce.Statement.{statement}
-use Rattle.codegen.proofs.space.scarce.Tie as tie
+use Rattle.codegen.proofs.space.scarce.Goals as goal
 
+-- A division instead of a product, which could overflow. Assumes nothing.
 -- fewer than n times as many, told by a division
 by_division : (a e n : ℕ) → 0 < e → ltb (a / e) n ≡ ltb a (n * e)
 by_division a e n h = go (ltb a (n * e)) refl
@@ -18,15 +16,6 @@ by_division a e n h = go (ltb a (n * e)) refl
     go true q = lt-ltb (a / e) n ((div-lt_iff_lt-mul h).1 (ltb-true a (n * e) q))
     go false q = le-ltb (a / e) n ((le-div_iff_mul-le h).1 (ltb-false a (n * e) q))
 
-div-result : tie.Need-nonzero-div-result
-div-result c = search rules
-
-div-result-2 : tie.Need-nonzero-div-result-2
-div-result-2 c = search rules
-
-returns : tie.Need-returns
+pub returns : goal.returns
 unfolding scarce
-returns c = by_division (c.args.words / c.args.width) c.args.each c.args.n c.requires.0
-
-pub scarce-spec : {M : Type 1} → statement M
-scarce-spec = tie.close (tie.spec div-result div-result-2 returns)
+returns c = by_division (c.args.words / c.args.width) c.args.each c.args.n c.requires.each_nonzero
