@@ -135,12 +135,28 @@ class Function:
         for p in chain:
             old, new = self.place[p][2]
             if plain(old) == first:
+                if segs[1:2] in (["auto"], ["kept"]) and len(segs) > 2:
+                    ones = 0
+                    while segs[2 + ones : 3 + ones] == ["1"]:
+                        ones += 1
+                    vars_ = self.it["params"].get(self.place[p][3]) or dict((l[0][1], l[1]) for l in self.it["loops"]).get(new) or []
+                    if ones < len(vars_):
+                        return [new, "auto", vars_[ones]]
                 return [new] + self.tail(self.place[p][3], segs[1:])
         for p in self.it["places"]:
             if plain(p[2][0]) == first:
                 return [p[2][1]] + self.tail(p[3], segs[1:])
+        it = re.match(r"(.*?)\d+$", segs[0])
+        if it:
+            return self.rename(place, [it[1]] + segs[1:], said)
+        if segs[0].endswith("_lem"):
+            return self.rename(place, [segs[0][:-4]] + segs[1:], said)
         said.append("no step " + ".".join(segs))
         return segs
+
+    def is_call(self, step):
+        name = re.sub(r"-\d+$", "", step.split("-not-", 1)[1])
+        return any(p[3] and (p[2][1] == name or p[3].split("::")[-1] == name) for p in self.it["places"])
 
     def tail(self, callee, rest):
         if callee and rest[:1] == ["ensures"]:
@@ -156,7 +172,7 @@ class Function:
                 return it[0]
             segs = self.rename(place, it[2][1:].split("."), said)
             whole = ".".join([it[1]] + segs)
-            if len(segs) == 2 and segs[1] in ("true", "false") and "-not-" in segs[0]:
+            if len(segs) == 2 and segs[1] in ("true", "false") and "-not-" in segs[0] and self.is_call(segs[0]):
                 return f"(ap not {whole})"
             return whole
 
@@ -167,11 +183,12 @@ def collapsed(text, states):
     """Drops each `let` that only names an earlier place of the walk: a place's record has all earlier steps."""
     one = "|".join(map(re.escape, sorted(states)))
     while True:
-        it = re.search(r"let (" + WORD + r") = \(?(" + one + r")((?:\.before)*)\)? in\s*", text)
+        it = re.search(r"let (" + WORD + r") = \(?(" + one + r")((?:\.before)*(?:\.(?!args\b|loop)" + WORD + r")?)\)? in\s*", text)
         if not it:
             return text
+        to = it[2] + re.sub(r"(\.before)+", "", it[3])
         text = text[: it.start()] + text[it.end() :]
-        text = re.sub(r"(?<![^\s(){};,\[\]\\])" + re.escape(it[1]) + r"(?![^\s(){}.;,\[\]\\])", it[2], text)
+        text = re.sub(r"(?<![^\s(){};,\[\]\\])" + re.escape(it[1]) + r"(?![^\s(){}.;,\[\]\\])", lambda _: to, text)
 
 
 def arguments(text, at, count):
@@ -450,6 +467,10 @@ def run(old, crate, mode, names_file, log=None):
                     as_record = recorded(done, kind)
                     if as_record:
                         done = as_record
+                    elif len(d["text"]) == 2:
+                        lets = re.match(r"(\S+ \S+ =\s*(?:let " + WORD + r" = (?:(?! in\b)[\s\S])*? in\b\s*)*)([\s\S]*)$", done)
+                        each = [(".1" * i + (".0" if i < len(kind) - 1 else "")) for i in range(len(kind))]
+                        done = lets[1] + " let both = " + lets[2] + " in record { " + "; ".join(f"{n} = both{e}" for n, e in zip(kind, each)) + " }"
                     else:
                         said.append(f"{new}: an answer to {kind}")
                 body_lines.append(done)

@@ -303,6 +303,7 @@ index_inside cs (x ∷ xs) c (Memᴰ.head e) =
     subst (λ (z : Const). find (interned (intern cs x) xs) z.value < length (interned (intern cs x) xs)) (sym e)
     (find_seen (interned (intern cs x) xs) x.value (seen_interned (intern cs x) xs x.value (seen_intern cs x)))
 index_inside cs (x ∷ xs) c (Memᴰ.tail m) = index_inside (intern cs x) xs c m
+index_inside cs [] c m = elim m [ ]
 
 -- each entry past the first ones was added
 abbrev pub Named : List Const → List Const → ℕ → Type 0

@@ -1,0 +1,15 @@
+use mathlib.Core.Path.{◌∙◌, ap}
+use mathlib.Core.List.{[], ◌∷◌, ◌++◌}
+use Prim.Native.Nat.{ℕ, ◌-◌, ◌/◌}
+use native.Mathlib.Omega.{arith}
+use Rattle.listing.specs.Print.{hex_digits}
+use Rattle.listing.proofs.PrintLaws.{nothing, same, join, hex_none, hex_more}
+use Rattle.listing.proofs.text.+hex.Goals as goal
+
+pub returns-then-count-eq0 : goal.returns-then-count-eq0
+returns-then-count-eq0 t c = same (hex_none c.args.count c.args.n c.if-count-eq0.true) nothing
+
+pub returns : goal.returns
+returns t c =
+    same (ap (λ (b : ℕ). hex_digits (c.args.count - 1) (c.args.n / 16) ++ (b ∷ [])) c.hex_digit.ensures ∙ hex_more c.args.count c.args.n (omega arith))
+    (join c.hex-to.ensures c.put.ensures)

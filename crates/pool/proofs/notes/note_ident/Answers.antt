@@ -1,0 +1,15 @@
+use Rattle.pool.proofs.Basics.{on_false, on_true}
+use Rattle.pool.specs.Notes.{note_ident}
+use borrow.Author.Tests.{le-ltb, lt-ltb}
+use mathlib.Core.Path.{sym}
+use Rattle.pool.proofs.notes.note_ident.Goals as goal
+
+pub returns-then-r-lt-RECORDS : goal.returns-then-r-lt-RECORDS
+unfolding note_ident
+returns-then-r-lt-RECORDS c =
+    rw (c.load_word.ensures, c.store_word.ensures) (sym (on_true _ _ _ (lt-ltb _ _ c.if-r-lt-RECORDS.true)))
+
+pub returns-else-r-lt-RECORDS : goal.returns-else-r-lt-RECORDS
+unfolding note_ident
+returns-else-r-lt-RECORDS c =
+    sym (on_false _ _ _ (le-ltb _ _ c.if-r-lt-RECORDS.false))
