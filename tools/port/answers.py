@@ -95,6 +95,7 @@ class Function:
     def __init__(self, names, key):
         it = names[key]
         self.key = key
+        self.in_cycle = False
         self.it = it
         self.place = {p[0]: p for p in it["places"]}
         self.index = {p[0]: i for i, p in enumerate(it["places"])}
@@ -117,6 +118,10 @@ class Function:
         if not segs:
             return []
         first = plain(segs[0])
+        if first in ("requires", "pre") and self.in_cycle and segs[1:2] == ["0"]:
+            return ["decreases"] + segs[2:]
+        if first in ("requires", "pre") and self.in_cycle and segs[1:2] == ["1"]:
+            return ["requires"] + by_name(segs[2:], clause_names(self.path)["requires"])
         if first in ("requires", "pre"):
             return ["requires"] + by_name(segs[1:], clause_names(self.path)["requires"])
         if first in ("args", "ranges", "typeinv"):
@@ -512,5 +517,157 @@ def run(old, crate, mode, names_file, log=None):
             print(f"{rel}: {line}")
 
 
+def fn_params(crate, module, name):
+    """Returns the names of a function's parameters, as its source has them."""
+    for folder, _, files in os.walk(os.path.join("crates", crate, "src")):
+        for f in files:
+            text = read(os.path.join(folder, f))
+            it = re.search(r"\bfn " + name + r"\(([^)]*)\)", text)
+            if it and (f[:-3] == module or module == "" or not module):
+                return [re.sub(r"^mut ", "", a.strip()).split(":")[0].strip() for a in it[1].split(",") if a.strip()]
+    return []
+
+
+def dedented(text):
+    """Takes the declarations of a section `module _ (t : ℕ) where` out of it."""
+    out, inside = [], False
+    for line in text.split("\n"):
+        if re.match(r"module _ \(t : ℕ\) where", line):
+            inside = True
+            continue
+        if inside and line.strip() and not line.startswith(" "):
+            inside = False
+        out.append(line[2:] if inside and line.startswith("  ") else line)
+    return "\n".join(out)
+
+
+def cycle(old, crate, rel, names_file, log=None):
+    """Turns the proof of a cycle of calls: OLD has Proof.antt and perhaps Proof/NAME.antt, REL is as depth/+patterns."""
+    names = json.load(open(names_file))
+    module = rel.replace("/", ".")
+    place_of = os.path.dirname(rel)
+    opened = set()
+    if log:
+        text = re.sub(r"(?m)^so far: ", "", read(log))
+        path = re.escape(rel)
+        for it in re.finditer(r"expected answers in \./proofs/" + path + r"/Answers\.antt; `search` did not prove ([^\n]*)", text):
+            opened |= {re.sub(r"-clause-.*", "", g) for g in re.findall(r"`([^`]+)`", it[1].split("; it calls")[0])}
+        for it in re.finditer(r"help: write \./proofs/" + path + r"/Answers\.antt[^\n]*\n((?:    [^\n]*\n|\s*\n)*)", text):
+            opened |= {re.sub(r"-clause-.*", "", g) for g in re.findall(r"^    pub (\S+) :", it[1], re.M)}
+    sources = [os.path.join(old, "Proof.antt")]
+    if os.path.isdir(os.path.join(old, "Proof")):
+        sources += sorted(os.path.join(old, "Proof", f) for f in os.listdir(os.path.join(old, "Proof")))
+    measures, invs, answers, uses_all, helpers_all, said, found = [], [], [], [], [], [], set()
+    for source in sources:
+        raw = dedented(read(source))
+        alias = {it[2]: it[1] for it in re.finditer(r"use \S*\.Lts-(\w+) as (\S+)", raw)}
+        uses, decls = parts(raw)
+        local, goals = [], []
+        for d in decls:
+            head = d["text"][0]
+            if d["name"].startswith("μ-") and ": Measures" in head:
+                clause = d["text"][1]
+                fn_name = None
+                it = re.search(r"Measures \d+ (\S+?)\.ps", head)
+                kinds = re.search(r"use \S*\.(\w+)\.Kinds as " + re.escape(it[1]), raw)
+                fn_name = kinds[1]
+                params = fn_params(crate, os.path.basename(place_of) if place_of else "lib", fn_name)
+                body = clause.partition("=")[2]
+                body = re.sub(r"(?<![\w.])a((?:\.1)*)\.0(?![\w])", lambda it: "l." + params[it[1].count(".1")], body)
+                measures.append((fn_name, body.strip(), d))
+                continue
+            it = re.search(r":\s*(\S+?)\.(Need-(\S+)|invariant-(\S+)|decreases-(\S+))", head)
+            if it and it[1] in alias:
+                goals.append((d, alias[it[1]], it))
+            elif re.search(r"\.Claims$|: ℕ → In |statement M", head):
+                continue
+            elif d["name"] == "calls" or d["name"].endswith(("_calls", "_at", "_below")):
+                continue
+            else:
+                local.append(d)
+        if log is None:
+            for d, fn_name, it in goals:
+                loop = it[4] or it[5]
+                if not loop:
+                    continue
+                fn = Function(names, f"Rattle-{crate}-proofs.{module}.Lts-{fn_name}")
+                for i, ((o, new), vars_) in enumerate(fn.it["loops"]):
+                    if plain(o) != plain(loop):
+                        continue
+                    order = [f"l.initial.{v}" if ch else f"l.{v}" for v, ch in zip(vars_, fn.it["changed"][i])]
+                    order += [f"l.{v}" for v, ch in zip(vars_, fn.it["changed"][i]) if ch]
+                    kind = "invariant" if it[4] else "decreases"
+                    head, _, body = d["text"][1].partition("=")
+                    argnames = head.split()[1:]
+                    if len(argnames) != len(order):
+                        said.append(f"{d['name']}: {argnames} for {order}")
+                    body = substituted(body, {a: b for a, b in zip(argnames, order) if a != "_"})
+                    name = f"{kind}-{fn.it['stem']}{new}"
+                    invs.append("\n".join(d["comments"] + [f"abbrev pub {name} : goal.{name}", f"{name} l ={body}"]))
+                    uses_all += uses
+            if any(True for m in measures):
+                uses_all += uses
+            continue
+        out = []
+        for d, fn_name, it in goals:
+            if not it[3]:
+                continue
+            fn = Function(names, f"Rattle-{crate}-proofs.{module}.Lts-{fn_name}")
+            fn.in_cycle = True
+            fn.path = "::".join([crate] + [w for w in place_of.split("/") if w] + [fn_name])
+            need = fn.needs.get(plain(it[3]))
+            if not need:
+                short = plain(re.sub("^" + fn_name + "[-_]", "", d["name"]))
+                need = fn.needs.get(short)
+            if not need:
+                if plain(it[3]) not in fn.settled:
+                    said.append(f"{fn_name}: no goal for {d['name']} ({it[3]})")
+                continue
+            goal = fn.it["stem"] + need[0]
+            if goal not in opened:
+                continue
+            found.add(goal)
+            lines = []
+            for clause in d["text"][1:]:
+                clause = re.sub(r"^" + re.escape(d["name"]) + r"(?=\s)", goal + " t", clause)
+                clause = re.sub(r"^(\S+ t \S+) κs =", r"\1 =", clause)
+                lines.append(fn.body(clause, need[1], {"c"}, said))
+            unf = [l.strip() for l in d["text"][0].split("\n")[1:] if l.strip().startswith("unfolding")]
+            out.append("\n".join(d["comments"] + [f"pub {goal} : goal.{goal}"] + unf + lines))
+        if out:
+            answers += out
+            uses_all += uses
+            helpers_all += local_closure("\n".join(out), local)
+    to = os.path.join("crates", crate, "proofs", rel)
+    merged = {}
+    for line in uses_all:
+        if re.search(r"\.(Lts-\w+|Reads|Kinds) as |borrow\.Fn\.(Kinds|PlainCycle)|\.Proof\.Base\.|\.Tie\.|\{statement\}", line):
+            continue
+        it = re.match(r"((?:pub )?use [^{]*\.)\{([^}]*)\}$", line)
+        if it:
+            for n in it[2].split(","):
+                if n.strip() and n.strip() not in merged.setdefault(it[1], []):
+                    merged[it[1]].append(n.strip())
+        else:
+            merged.setdefault(line, None)
+    merged = [k if v is None else k + "{" + ", ".join(v) + "}" for k, v in merged.items()]
+    if log is None:
+        text = "\n\n".join([f"abbrev pub decreases-{n} : goal.decreases-{n}\ndecreases-{n} l = {b}" for n, b, _ in measures] + invs)
+        write(os.path.join(to, "Invariants.antt"), "\n".join(kept_uses(merged, text) + [f"use Rattle.{crate}.proofs.{module}.Given as goal"]) + "\n\n" + text + "\n")
+    else:
+        text = "\n\n".join(["\n".join(d["comments"] + d["text"]) for d in helpers_all] + answers)
+        lines = kept_uses(merged, text)
+        if "(ap not " in text:
+            head = "\n".join(lines)
+            lines += [f"use {m}.{{{n}}}" for m, n in (("mathlib.Core.Path", "ap"), ("mathlib.Core.Bool", "not")) if not re.search(r"[{ ,]" + n + r"[,}]", head)]
+        write(os.path.join(to, "Answers.antt"), "\n".join(lines + [f"use Rattle.{crate}.proofs.{module}.Goals as goal"]) + "\n\n" + text + "\n")
+        print(f"open with no answer: {sorted(opened - found)}")
+    for line in said:
+        print(line)
+
+
 if __name__ == "__main__":
+    if sys.argv[1] == "cycle":
+        cycle(*sys.argv[2:])
+        raise SystemExit
     run(*sys.argv[1:])

@@ -13,7 +13,7 @@ use pool::notes::Notes;
 use tables::ast::{first, kind, next};
 use tables::kind;
 
-#[cycle(list_table_visit_pattern_depth)]
+#[cycle(patterns)]
 pub fn visit_pattern_depth(
     recs: &[u32],
     notes: &Notes,
@@ -46,7 +46,7 @@ pub fn visit_pattern_depth(
 }
 
 // PatternKind::Table
-#[cycle(list_table_visit_pattern_depth)]
+#[cycle(patterns)]
 fn table(
     recs: &[u32],
     notes: &Notes,
@@ -77,7 +77,7 @@ fn table(
 }
 
 // PatternKind::List
-#[cycle(list_table_visit_pattern_depth)]
+#[cycle(patterns)]
 fn list(
     recs: &[u32],
     notes: &Notes,

@@ -3,7 +3,6 @@ ghost use Rattle.std.specs.Prelude.{length};
 ghost use Rattle.replay.specs.Input.{Within};
 
 use crate::print::text;
-use libc::STDIN_FILENO;
 
 // How many words were read; or they are none, or too many, or too long an input.
 #[derive(Clone, Copy)]
@@ -11,6 +10,8 @@ pub enum Input {
     Words(usize),
     Unreadable,
 }
+
+const STDIN_FILENO: i32 = 0;
 
 const WORD: u64 = 4294967295;
 

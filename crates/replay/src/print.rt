@@ -1,7 +1,8 @@
 // Printing of numbers and refusals; no contract can say what is written.
-use libc::STDOUT_FILENO;
 use tables::refusal;
 use tables::refusal::Refusal;
+
+const STDOUT_FILENO: i32 = 1;
 
 pub fn text(bytes: &[u8]) {
     io::write_all(STDOUT_FILENO, bytes);
