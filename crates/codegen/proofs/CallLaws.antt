@@ -8,8 +8,6 @@ use native.Mathlib.Omega.{arith}
 use lib.ListN.{length}
 use lib.Dec.{ltb}
 use borrow.Author.Tests.{ltb-true, ltb-false}
-use types.Run.{OneOf}
-use denote.Enum.Declared.{tag_of}
 use Rattle.tables.specs.Record.{size}
 use Rattle.tables.specs.declared.refusal.RunRule.{RunRule}
 use Rattle.tables.specs.declared.refusal.Refusal.TheVariants.{Run}
@@ -17,7 +15,6 @@ use Rattle.pool.specs.Names.{Semantic, semantic}
 use Rattle.pool.specs.NameWords.{over, fits}
 use Rattle.pool.specs.Resolve.{Blank, Resolved, Resolves}
 use Rattle.pool.proofs.FitLaws.{kept_fits, kept_grown}
-use Rattle.rules.specs.contracts.Flow.{the_type as flow-type}
 use Rattle.rules.specs.declared.Flow.{Flow}
 use Rattle.rules.specs.declared.Flow.TheVariants.{Go, Cut, Refused as Halted}
 use Rattle.rules.specs.Run.{Side, State, flow, side, look}
@@ -60,14 +57,10 @@ pub same_listing : (n m c e s k : ℕ) → n ≡ m → c ≡ e → s ≡ k → L
 same_listing n m c e s k p q r = rw (p, q, r)
 
 -- of the three ways that a run ends, the first two are listings
-pub tag_runs : (f : Flow) → OneOf (0 ∷ 1 ∷ []) (tag_of flow-type f) → Runs f
+pub tag_runs : (f : Flow) → ((rule : RunRule) (r : ℕ) → f ≡ Halted rule r → ⊥) → Runs f
 tag_runs Go h = tt
 tag_runs (Cut k a b) h = tt
-tag_runs (Halted x r) h = two h
-  where
-    two : OneOf (0 ∷ 1 ∷ []) 2 → ⊥
-    two (inl e) = omega arith
-    two (inr e) = omega arith
+tag_runs (Halted x r) h = absurd (h x r refl)
 
 -- ---- a run that is refused
 
@@ -115,10 +108,10 @@ module _ (symbols references functions members recs : List ℕ) (sound : Sound s
     pub flow_ran : f ≡ flow (ran t recs)
     flow_ran = flow_noted ∙ ap flow (noted_same t ns recs noted)
 
-    pub runs_noted : OneOf (0 ∷ 1 ∷ []) (tag_of flow-type f) → Runs (flow (noted_run ns recs))
+    pub runs_noted : ((rule : RunRule) (r : ℕ) → f ≡ Halted rule r → ⊥) → Runs (flow (noted_run ns recs))
     runs_noted h = subst Runs flow_noted (tag_runs f h)
 
-    pub runs_ran : OneOf (0 ∷ 1 ∷ []) (tag_of flow-type f) → Runs (flow (ran t recs))
+    pub runs_ran : ((rule : RunRule) (r : ℕ) → f ≡ Halted rule r → ⊥) → Runs (flow (ran t recs))
     runs_ran h = subst Runs flow_ran (tag_runs f h)
 
   module _ (entries spans : List ℕ) (named : Named t entries spans) (markers constants names errors lines : List ℕ)

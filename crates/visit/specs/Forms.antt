@@ -1,6 +1,6 @@
 -- The forms of the visitors' contracts, of what a visitor is lent as it is before and after. Definitions only.
 use Rattle.std.specs.Prelude.{◌≡◌, List, ℕ}
-use Rattle.std.specs.Borrow.{Bor}
+use Rattle.std.specs.Borrow.{Bor, MutBor}
 use denote.Triple.Both.{Both}
 use Rattle.tables.specs.Record.{Words, word, words}
 use Rattle.tables.specs.Forest.{children, Nodes, own_tree}
@@ -13,11 +13,14 @@ use Rattle.emit.specs.Rep.{Walk, within, Lent, lent, outs, Sim}
 use Rattle.emit.specs.Does.{visit_in, own_stream, does}
 use Rattle.visit.specs.Runs.{bodied_all}
 
--- lent words, at entry and at exit
+-- words lent to read, and words lent to write, at entry and at exit
 abbrev pub LentWords : Type 0
 LentWords = Both (Bor (List ℕ)) (Bor (List ℕ))
 
-module _ (recs notes code consts frame : LentWords) where
+abbrev pub WrittenWords : Type 0
+WrittenWords = Both (MutBor (List ℕ)) (MutBor (List ℕ))
+
+module _ (recs notes : LentWords) (code consts frame : WrittenWords) where
   abbrev tables : Lent
   tables = lent recs.entry.now notes.entry.now
 

@@ -54,7 +54,7 @@ use tables::refusal::RunRule;
 use tables::{detail, kind};
 
 // visit_expr
-#[cycle(all_and_arm_assign_binary_block_bodies_body_call_called_cases_catch_cond_each_expr_fetch_func_glo_import_inner_list_member_multi_or_prop_repeat_rest_ret_short_table_target_unpack_update_whilst)]
+#[cycle(visitors)]
 pub fn expr(
     recs: &[u32],
     notes: &Notes,
@@ -93,7 +93,7 @@ pub fn expr(
 }
 
 // visit_expr's further arms
-#[cycle(all_and_arm_assign_binary_block_bodies_body_call_called_cases_catch_cond_each_expr_fetch_func_glo_import_inner_list_member_multi_or_prop_repeat_rest_ret_short_table_target_unpack_update_whilst)]
+#[cycle(visitors)]
 fn arm(
     recs: &[u32],
     notes: &Notes,
@@ -124,7 +124,7 @@ fn arm(
 }
 
 // The kinds that are no expression, visited where they stand. The first is visit_function.
-#[cycle(all_and_arm_assign_binary_block_bodies_body_call_called_cases_catch_cond_each_expr_fetch_func_glo_import_inner_list_member_multi_or_prop_repeat_rest_ret_short_table_target_unpack_update_whilst)]
+#[cycle(visitors)]
 fn rest(
     recs: &[u32],
     notes: &Notes,
@@ -156,7 +156,7 @@ fn rest(
 }
 
 // gen_function_code inside another function, where the functions inside are walked.
-#[cycle(all_and_arm_assign_binary_block_bodies_body_call_called_cases_catch_cond_each_expr_fetch_func_glo_import_inner_list_member_multi_or_prop_repeat_rest_ret_short_table_target_unpack_update_whilst)]
+#[cycle(visitors)]
 pub fn inner(
     recs: &[u32],
     notes: &Notes,
@@ -183,7 +183,7 @@ pub fn inner(
 }
 
 // gen_function_code: the function's own stream.
-#[cycle(all_and_arm_assign_binary_block_bodies_body_call_called_cases_catch_cond_each_expr_fetch_func_glo_import_inner_list_member_multi_or_prop_repeat_rest_ret_short_table_target_unpack_update_whilst)]
+#[cycle(visitors)]
 pub fn body(
     recs: &[u32],
     notes: &Notes,
@@ -207,7 +207,7 @@ pub fn body(
 }
 
 // visit_block: an expression's error is kept.
-#[cycle(all_and_arm_assign_binary_block_bodies_body_call_called_cases_catch_cond_each_expr_fetch_func_glo_import_inner_list_member_multi_or_prop_repeat_rest_ret_short_table_target_unpack_update_whilst)]
+#[cycle(visitors)]
 fn block(
     recs: &[u32],
     notes: &Notes,
@@ -234,7 +234,7 @@ fn block(
 }
 
 // n siblings from this one on.
-#[cycle(all_and_arm_assign_binary_block_bodies_body_call_called_cases_catch_cond_each_expr_fetch_func_glo_import_inner_list_member_multi_or_prop_repeat_rest_ret_short_table_target_unpack_update_whilst)]
+#[cycle(visitors)]
 fn all(
     recs: &[u32],
     notes: &Notes,
@@ -259,7 +259,7 @@ fn all(
 }
 
 // ExprKind::Fn
-#[cycle(all_and_arm_assign_binary_block_bodies_body_call_called_cases_catch_cond_each_expr_fetch_func_glo_import_inner_list_member_multi_or_prop_repeat_rest_ret_short_table_target_unpack_update_whilst)]
+#[cycle(visitors)]
 fn func(
     recs: &[u32],
     notes: &Notes,
@@ -281,7 +281,7 @@ fn func(
 }
 
 // ExprKind::Table
-#[cycle(all_and_arm_assign_binary_block_bodies_body_call_called_cases_catch_cond_each_expr_fetch_func_glo_import_inner_list_member_multi_or_prop_repeat_rest_ret_short_table_target_unpack_update_whilst)]
+#[cycle(visitors)]
 fn table(
     recs: &[u32],
     notes: &Notes,
@@ -299,7 +299,7 @@ fn table(
 }
 
 // ExprKind::List
-#[cycle(all_and_arm_assign_binary_block_bodies_body_call_called_cases_catch_cond_each_expr_fetch_func_glo_import_inner_list_member_multi_or_prop_repeat_rest_ret_short_table_target_unpack_update_whilst)]
+#[cycle(visitors)]
 fn list(
     recs: &[u32],
     notes: &Notes,
@@ -317,7 +317,7 @@ fn list(
 }
 
 // ExprKind::Binary
-#[cycle(all_and_arm_assign_binary_block_bodies_body_call_called_cases_catch_cond_each_expr_fetch_func_glo_import_inner_list_member_multi_or_prop_repeat_rest_ret_short_table_target_unpack_update_whilst)]
+#[cycle(visitors)]
 fn binary(
     recs: &[u32],
     notes: &Notes,
@@ -343,7 +343,7 @@ fn binary(
 }
 
 // BinOp::And
-#[cycle(all_and_arm_assign_binary_block_bodies_body_call_called_cases_catch_cond_each_expr_fetch_func_glo_import_inner_list_member_multi_or_prop_repeat_rest_ret_short_table_target_unpack_update_whilst)]
+#[cycle(visitors)]
 fn and(
     recs: &[u32],
     notes: &Notes,
@@ -364,7 +364,7 @@ fn and(
 }
 
 // BinOp::Or
-#[cycle(all_and_arm_assign_binary_block_bodies_body_call_called_cases_catch_cond_each_expr_fetch_func_glo_import_inner_list_member_multi_or_prop_repeat_rest_ret_short_table_target_unpack_update_whilst)]
+#[cycle(visitors)]
 fn or(
     recs: &[u32],
     notes: &Notes,
@@ -385,7 +385,7 @@ fn or(
 }
 
 // ExprKind::Member
-#[cycle(all_and_arm_assign_binary_block_bodies_body_call_called_cases_catch_cond_each_expr_fetch_func_glo_import_inner_list_member_multi_or_prop_repeat_rest_ret_short_table_target_unpack_update_whilst)]
+#[cycle(visitors)]
 fn member(
     recs: &[u32],
     notes: &Notes,
@@ -411,7 +411,7 @@ fn member(
 }
 
 // visit_member_property, of a Member or a Left
-#[cycle(all_and_arm_assign_binary_block_bodies_body_call_called_cases_catch_cond_each_expr_fetch_func_glo_import_inner_list_member_multi_or_prop_repeat_rest_ret_short_table_target_unpack_update_whilst)]
+#[cycle(visitors)]
 fn prop(
     recs: &[u32],
     notes: &Notes,
@@ -436,7 +436,7 @@ fn prop(
 }
 
 // ExprKind::Call; one that is returned ends in ReturnCall.
-#[cycle(all_and_arm_assign_binary_block_bodies_body_call_called_cases_catch_cond_each_expr_fetch_func_glo_import_inner_list_member_multi_or_prop_repeat_rest_ret_short_table_target_unpack_update_whilst)]
+#[cycle(visitors)]
 fn call(
     recs: &[u32],
     notes: &Notes,
@@ -476,7 +476,7 @@ fn call(
 }
 
 // A Call's callee: a method's table is its first argument.
-#[cycle(all_and_arm_assign_binary_block_bodies_body_call_called_cases_catch_cond_each_expr_fetch_func_glo_import_inner_list_member_multi_or_prop_repeat_rest_ret_short_table_target_unpack_update_whilst)]
+#[cycle(visitors)]
 fn called(
     recs: &[u32],
     notes: &Notes,
@@ -512,7 +512,7 @@ fn called(
 }
 
 // The Handlers or Cases from this one on: each behind its label, the labels one behind the other, and a jump to the end.
-#[cycle(all_and_arm_assign_binary_block_bodies_body_call_called_cases_catch_cond_each_expr_fetch_func_glo_import_inner_list_member_multi_or_prop_repeat_rest_ret_short_table_target_unpack_update_whilst)]
+#[cycle(visitors)]
 fn bodies(
     recs: &[u32],
     notes: &Notes,
@@ -537,7 +537,7 @@ fn bodies(
 }
 
 // A Handler behind its label.
-#[cycle(all_and_arm_assign_binary_block_bodies_body_call_called_cases_catch_cond_each_expr_fetch_func_glo_import_inner_list_member_multi_or_prop_repeat_rest_ret_short_table_target_unpack_update_whilst)]
+#[cycle(visitors)]
 fn catch(
     recs: &[u32],
     notes: &Notes,
@@ -559,7 +559,7 @@ fn catch(
 }
 
 // ExprKind::If
-#[cycle(all_and_arm_assign_binary_block_bodies_body_call_called_cases_catch_cond_each_expr_fetch_func_glo_import_inner_list_member_multi_or_prop_repeat_rest_ret_short_table_target_unpack_update_whilst)]
+#[cycle(visitors)]
 fn cond(
     recs: &[u32],
     notes: &Notes,
@@ -589,7 +589,7 @@ fn cond(
 }
 
 // ExprKind::Match
-#[cycle(all_and_arm_assign_binary_block_bodies_body_call_called_cases_catch_cond_each_expr_fetch_func_glo_import_inner_list_member_multi_or_prop_repeat_rest_ret_short_table_target_unpack_update_whilst)]
+#[cycle(visitors)]
 fn cases(
     recs: &[u32],
     notes: &Notes,
@@ -628,7 +628,7 @@ fn cases(
 }
 
 // ExprKind::Loop
-#[cycle(all_and_arm_assign_binary_block_bodies_body_call_called_cases_catch_cond_each_expr_fetch_func_glo_import_inner_list_member_multi_or_prop_repeat_rest_ret_short_table_target_unpack_update_whilst)]
+#[cycle(visitors)]
 fn repeat(
     recs: &[u32],
     notes: &Notes,
@@ -653,7 +653,7 @@ fn repeat(
 }
 
 // ExprKind::While
-#[cycle(all_and_arm_assign_binary_block_bodies_body_call_called_cases_catch_cond_each_expr_fetch_func_glo_import_inner_list_member_multi_or_prop_repeat_rest_ret_short_table_target_unpack_update_whilst)]
+#[cycle(visitors)]
 fn whilst(
     recs: &[u32],
     notes: &Notes,
@@ -681,7 +681,7 @@ fn whilst(
 }
 
 // ExprKind::For
-#[cycle(all_and_arm_assign_binary_block_bodies_body_call_called_cases_catch_cond_each_expr_fetch_func_glo_import_inner_list_member_multi_or_prop_repeat_rest_ret_short_table_target_unpack_update_whilst)]
+#[cycle(visitors)]
 fn each(
     recs: &[u32],
     notes: &Notes,
@@ -712,7 +712,7 @@ fn each(
 }
 
 // ExprKind::Return
-#[cycle(all_and_arm_assign_binary_block_bodies_body_call_called_cases_catch_cond_each_expr_fetch_func_glo_import_inner_list_member_multi_or_prop_repeat_rest_ret_short_table_target_unpack_update_whilst)]
+#[cycle(visitors)]
 fn ret(
     recs: &[u32],
     notes: &Notes,
@@ -738,7 +738,7 @@ fn ret(
 }
 
 // ExprKind::Import
-#[cycle(all_and_arm_assign_binary_block_bodies_body_call_called_cases_catch_cond_each_expr_fetch_func_glo_import_inner_list_member_multi_or_prop_repeat_rest_ret_short_table_target_unpack_update_whilst)]
+#[cycle(visitors)]
 fn import(
     recs: &[u32],
     notes: &Notes,
@@ -769,7 +769,7 @@ fn import(
 }
 
 // ExprKind::GloAssign
-#[cycle(all_and_arm_assign_binary_block_bodies_body_call_called_cases_catch_cond_each_expr_fetch_func_glo_import_inner_list_member_multi_or_prop_repeat_rest_ret_short_table_target_unpack_update_whilst)]
+#[cycle(visitors)]
 fn glo(
     recs: &[u32],
     notes: &Notes,
@@ -788,7 +788,7 @@ fn glo(
 }
 
 // ExprKind::Assign
-#[cycle(all_and_arm_assign_binary_block_bodies_body_call_called_cases_catch_cond_each_expr_fetch_func_glo_import_inner_list_member_multi_or_prop_repeat_rest_ret_short_table_target_unpack_update_whilst)]
+#[cycle(visitors)]
 fn assign(
     recs: &[u32],
     notes: &Notes,
@@ -807,7 +807,7 @@ fn assign(
 }
 
 // visit_assign_left
-#[cycle(all_and_arm_assign_binary_block_bodies_body_call_called_cases_catch_cond_each_expr_fetch_func_glo_import_inner_list_member_multi_or_prop_repeat_rest_ret_short_table_target_unpack_update_whilst)]
+#[cycle(visitors)]
 fn target(
     recs: &[u32],
     notes: &Notes,
@@ -836,7 +836,7 @@ fn target(
 }
 
 // ExprKind::AssignOp
-#[cycle(all_and_arm_assign_binary_block_bodies_body_call_called_cases_catch_cond_each_expr_fetch_func_glo_import_inner_list_member_multi_or_prop_repeat_rest_ret_short_table_target_unpack_update_whilst)]
+#[cycle(visitors)]
 fn update(
     recs: &[u32],
     notes: &Notes,
@@ -861,7 +861,7 @@ fn update(
 }
 
 // `and=` and `or=` on a plain name, where the Rust panics (document 02, job 1): as And and Or, with the Left loaded before and stored after.
-#[cycle(all_and_arm_assign_binary_block_bodies_body_call_called_cases_catch_cond_each_expr_fetch_func_glo_import_inner_list_member_multi_or_prop_repeat_rest_ret_short_table_target_unpack_update_whilst)]
+#[cycle(visitors)]
 fn short(
     recs: &[u32],
     notes: &Notes,
@@ -885,7 +885,7 @@ fn short(
 }
 
 // An AssignOp's Left before the right side: its old value is loaded.
-#[cycle(all_and_arm_assign_binary_block_bodies_body_call_called_cases_catch_cond_each_expr_fetch_func_glo_import_inner_list_member_multi_or_prop_repeat_rest_ret_short_table_target_unpack_update_whilst)]
+#[cycle(visitors)]
 fn fetch(
     recs: &[u32],
     notes: &Notes,
@@ -918,7 +918,7 @@ fn fetch(
 }
 
 // ExprKind::AssignUnpack
-#[cycle(all_and_arm_assign_binary_block_bodies_body_call_called_cases_catch_cond_each_expr_fetch_func_glo_import_inner_list_member_multi_or_prop_repeat_rest_ret_short_table_target_unpack_update_whilst)]
+#[cycle(visitors)]
 fn unpack(
     recs: &[u32],
     notes: &Notes,
@@ -947,7 +947,7 @@ fn unpack(
 }
 
 // ExprKind::AssignMulti
-#[cycle(all_and_arm_assign_binary_block_bodies_body_call_called_cases_catch_cond_each_expr_fetch_func_glo_import_inner_list_member_multi_or_prop_repeat_rest_ret_short_table_target_unpack_update_whilst)]
+#[cycle(visitors)]
 fn multi(
     recs: &[u32],
     notes: &Notes,
