@@ -1,8 +1,7 @@
 -- What the call answers, from what its parts leave. Assumes nothing.
 use mathlib.Core.Path.{◌≡◌, refl, sym, ap, subst, subst⁻¹, ◌∙◌}
 use mathlib.Core.Bool.{Bool, true, false}
-use mathlib.Core.List.{List, [], ◌∷◌}
-use mathlib.Core.Logic.{inl, inr}
+use mathlib.Core.List.{List}
 use Prim.Native.Nat.{ℕ, ◌*◌, ◌≤◌, ◌<◌}
 use native.Mathlib.Omega.{arith}
 use lib.ListN.{length}
@@ -18,7 +17,7 @@ use Rattle.pool.proofs.FitLaws.{kept_fits, kept_grown}
 use Rattle.rules.specs.declared.Flow.{Flow}
 use Rattle.rules.specs.declared.Flow.TheVariants.{Go, Cut, Refused as Halted}
 use Rattle.rules.specs.Run.{Side, State, flow, side, look}
-use Rattle.rules.specs.Out.{Out, out, ended, outcome}
+use Rattle.rules.specs.Out.{Out, ended, outcome}
 use Rattle.rules.proofs.Alone.{Runs}
 use Rattle.emit.specs.Words.{limit, ERRORS, FUNCTIONS, at, flow_in}
 use Rattle.emit.specs.Does.{noted_look}
@@ -26,7 +25,7 @@ use Rattle.codegen.specs.declared.call.Answer.{Answer}
 use Rattle.codegen.specs.declared.call.Answer.TheVariants.{Listing, Refused}
 use Rattle.codegen.specs.Walks.{ran, noted_run, Walked}
 use Rattle.codegen.specs.Listing.{met_of, stream_of, Ready}
-use Rattle.codegen.specs.Call.{answering, ran_of, written_of, lists, Written, Answered, Sound, Roomy, Listable, Listed}
+use Rattle.codegen.specs.Call.{answering, written_of, lists, Written, Answered, Sound, Roomy, Listable, Listed}
 use Rattle.codegen.proofs.NoteLaws.{noted_same}
 use Rattle.codegen.proofs.LayLaws.{note_over}
 use Rattle.codegen.proofs.SpaceLaws.{space_kept}

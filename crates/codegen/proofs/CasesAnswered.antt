@@ -1,8 +1,8 @@
 -- Document 01's worked cases A to J as the call answers them: a listing of one line each, with room enough; with a word less of markers, 2 at place 0.
 -- Assumes nothing.
-use mathlib.Core.Bool.{Bool, true, false, ◌&&◌}
+use mathlib.Core.Bool.{Bool, true, ◌&&◌}
 use mathlib.Core.List.{List, [], ◌∷◌}
-use Prim.Native.Nat.{ℕ, ◌+◌, ◌*◌, ◌/◌, ◌-◌}
+use Prim.Native.Nat.{ℕ, ◌*◌, ◌/◌, ◌-◌}
 use lib.ListN.{length}
 use lib.Dec.{T, eqb}
 use Rattle.tables.specs.Record.{size}

@@ -2,13 +2,13 @@
 use mathlib.Core.Path.{◌≡◌}
 use mathlib.Core.List.{List}
 use Prim.Native.Nat.{ℕ}
-use Rattle.tables.specs.Record.{Words, words, is_function}
+use Rattle.tables.specs.Record.{Words, words}
 use Rattle.tables.specs.Forest.{Forest, none, tree, children}
 use Rattle.pool.specs.Names.{Semantic}
 use Rattle.pool.specs.Notes.{Noted}
 use Rattle.pool.specs.Resolve.{Resolved}
 use Rattle.rules.specs.Step.{Use, Get, Set}
-use Rattle.rules.specs.Run.{here, nowhere, look, full, nothing, run}
+use Rattle.rules.specs.Run.{here, look, full, nothing, run}
 use Rattle.rules.proofs.Lookups.{inside, Alike, Nowhere, function_alike}
 use Rattle.emit.specs.Does.{noted_look}
 use Rattle.codegen.specs.Walks.{stack_code, ran, noted_run}

@@ -8,9 +8,8 @@ use native.Mathlib.Omega.{arith}
 use lib.ListN.{get_or, take as front}
 use lib.Dec.{T, leb, ltb, eqb, leb→le}
 use borrow.Author.Tests.{ltb-true, eqb-true, eqb-false}
-use Rattle.tables.specs.Record.{Words, words, is_do, is_function}
+use Rattle.tables.specs.Record.{Words, is_do, is_function}
 use Rattle.tables.specs.Forest.{Forest, none, tree, Nodes, bare, own_tree, count, children, first, root}
-use Rattle.tables.specs.declared.refusal.RunRule.{RunRule}
 use Rattle.tables.specs.declared.refusal.RunRule.TheVariants.{Reference, Load, Store}
 use Rattle.tables.proofs.ForestLaws.{Each, each, and_l, and_r, Genuine, genuine}
 use Rattle.pool.specs.Value.{function}
@@ -47,43 +46,7 @@ use Rattle.rules.specs.Step.{
 }
 use Rattle.rules.specs.Arms.{function_steps, stream_steps}
 use Rattle.rules.specs.Kinds.{steps}
-use Rattle.rules.specs.Run.{
-  Loop,
-  loop,
-  State,
-  st,
-  marks,
-  labels,
-  loops,
-  emit,
-  bump,
-  halt,
-  begin,
-  drop1,
-  finish,
-  way_out,
-  outward,
-  barred,
-  Spot,
-  here,
-  nowhere,
-  spot_at,
-  number_of,
-  Lookup,
-  sought,
-  settle,
-  kept,
-  nested,
-  idle,
-  keeping,
-  Mode,
-  exec,
-  child_visit,
-  stream,
-  visits_of,
-  anew,
-  alone,
-}
+use Rattle.rules.specs.Run.{Loop, loop, State, st, marks, labels, loops, emit, bump, halt, begin, drop1, finish, way_out, outward, barred, spot_at, number_of, Lookup, sought, settle, kept, nested, idle, keeping, Mode, exec, child_visit, stream, visits_of, anew, alone}
 use Rattle.rules.proofs.Visits.{visit_of}
 use Rattle.rules.proofs.StepsOk.{function_only}
 use Rattle.rules.proofs.Tame.{no_name, no_function, held_by, tame, tally, Modest}

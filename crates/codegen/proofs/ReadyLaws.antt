@@ -1,11 +1,11 @@
 -- Accepted tables: every function met has its record, its stream is that of the record by itself, and words hold its numbers. Assumes nothing.
 use mathlib.Core.Path.{◌≡◌, refl, sym, ap, subst, ◌∙◌}
-use mathlib.Core.Bool.{true, false}
+use mathlib.Core.Bool.{true}
 use mathlib.Core.List.{List, [], ◌∷◌}
 use Prim.Native.Nat.{ℕ, ◌*◌, ◌≤◌, ◌<◌, min}
 use native.Mathlib.Omega.{arith}
 use lib.ListN.{length, get_or, take as front}
-use Rattle.tables.specs.Record.{Words, word, words, size, is_function}
+use Rattle.tables.specs.Record.{words, size, is_function}
 use Rattle.tables.specs.Forest.{Forest, none, tree, root, children, levels, count}
 use Rattle.tables.specs.Semantic.{pairs}
 use Rattle.tables.proofs.CheckLaws.{Kept, rows_kept}

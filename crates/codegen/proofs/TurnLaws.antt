@@ -11,7 +11,7 @@ use Rattle.pool.specs.NameWords.{over, span_of}
 use Rattle.pool.specs.declared.spans.Span.{Span}
 use Rattle.pool.specs.Consts.{laid}
 use Rattle.rules.specs.Marker.{Mark}
-use Rattle.rules.specs.Run.{Stream, State, marks}
+use Rattle.rules.specs.Run.{Stream, marks}
 use Rattle.rules.specs.Out.{consts, loop_depth}
 use Rattle.emit.specs.Words.{limit, cap, MARKERS, LABELS, CONSTS, at}
 use Rattle.emit.specs.Rep.{outs, lay, Room}
@@ -19,7 +19,7 @@ use Rattle.emit.proofs.ConstLaws.{table_short}
 use Rattle.codegen.specs.declared.streams.Reached.{Reached}
 use Rattle.codegen.specs.Places.{Places}
 use Rattle.codegen.specs.Walks.{noted_run, single, Streamed}
-use Rattle.codegen.specs.Listing.{markers_of, constants_of, line_of, Own, stream_of, met_of, Ready, Turning, over_at}
+use Rattle.codegen.specs.Listing.{markers_of, constants_of, line_of, Own, stream_of, Ready, Turning, over_at}
 use Rattle.codegen.proofs.LayLaws.{markers_length, lay_over, laid_over, constants_length}
 
 -- the words from a place on, and the whole when they are back

@@ -7,13 +7,12 @@ use native.Mathlib.Omega.{arith}
 use lib.ListN.{length}
 use Rattle.tables.specs.Record.{words, is_do}
 use Rattle.tables.specs.Forest.{children}
-use Rattle.pool.specs.Value.{start}
 use Rattle.pool.specs.Consts.{put3, laid}
 use Rattle.pool.proofs.LaidLaws.{told_start}
 use Rattle.rules.specs.Marker.{Pop, LoadLocals, Return}
 use Rattle.rules.specs.Step.{push_op, expr, Step}
 use Rattle.rules.specs.Arms.{stream_steps}
-use Rattle.rules.specs.Run.{Error, Side, State, side, anew, nested, nothing, idle, exec, run, alone}
+use Rattle.rules.specs.Run.{Error, Side, State, side, anew, nested, nothing, idle, exec, alone}
 use Rattle.rules.specs.Out.{consts}
 use Rattle.rules.proofs.Enough.{run_enough}
 use Rattle.emit.specs.Words.{limit, SIZE, put}

@@ -1,5 +1,5 @@
 -- The call: what it answers and what it writes. Definitions only.
-use Rattle.std.specs.Prelude.{◌≡◌, Bool, true, false, cond, List, [], ◌∷◌, ℕ, zero, suc, ◌*◌, ◌≤◌, ◌<◌, length, take, ltb}
+use Rattle.std.specs.Prelude.{◌≡◌, cond, List, [], ◌∷◌, ℕ, zero, suc, ◌*◌, ◌≤◌, ◌<◌, length, take, ltb}
 use Rattle.tables.specs.declared.refusal.Broken.TheVariants.{Nowhere}
 use Rattle.tables.specs.declared.refusal.Refusal.TheVariants.{Table, Space, Run}
 use Rattle.tables.specs.declared.refusal.Checked.{Checked}

@@ -7,8 +7,8 @@ use pool::spans::span_of;
 
 // The first n words of `from` over the front of `to`.
 fn copy(from: &[u32], to: &mut [u32], n: usize)
-    requires n_in_bounds { n ≤ length from.now }
-    requires n_in_bounds_2 { n ≤ length to.old }
+    requires within { n ≤ length from.now }
+    requires room { n ≤ length to.old }
     ensures { to.new ≡ over (take n from.now) to.old }
 {
     let mut i: usize = 0;
@@ -33,9 +33,9 @@ fn count(spans: &[u32], n: usize) -> usize
 
 // The names of the first n functions.
 pub(crate) fn name_words(entries: &[u32], spans: &[u32], names: &mut [u32], n: usize)
-    requires n_nonzero { 0 < n }
-    requires n_in_bounds { name_count spans.now n ≤ length entries.now }
-    requires n_in_bounds_2 { name_count spans.now n ≤ length names.old }
+    requires some { 0 < n }
+    requires within { name_count spans.now n ≤ length entries.now }
+    requires room { name_count spans.now n ≤ length names.old }
     ensures { names.new ≡ over (take (name_count spans.now n) entries.now) names.old }
 {
     copy(entries, names, count(spans, n));

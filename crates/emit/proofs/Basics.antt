@@ -1,9 +1,9 @@
 -- Small laws of choices and states. Assumes nothing.
-use mathlib.Core.Path.{◌≡◌, refl, sym, ap, ◌∙◌}
+use mathlib.Core.Path.{◌≡◌, refl, sym, ap}
 use mathlib.Core.Bool.{Bool, true, false, cond}
 use mathlib.Core.List.{List}
 use mathlib.Core.Logic.{◌⊎◌, inl, inr}
-use Prim.Native.Nat.{ℕ, suc, ◌+◌, ◌≤◌, ◌<◌, min}
+use Prim.Native.Nat.{ℕ, suc, ◌+◌, ◌≤◌, ◌<◌}
 use native.Mathlib.Omega.{arith}
 use lib.Dec.{ltb}
 use borrow.Author.Tests.{ltb-true, ltb-false}
@@ -12,8 +12,7 @@ use Rattle.rules.specs.declared.Flow.{Flow}
 use Rattle.rules.specs.declared.Flow.TheVariants.{Go, Cut, Refused}
 use Rattle.rules.specs.Marker.{Mark}
 use Rattle.rules.specs.Run.{Loop, State, st, marks, labels, loops, opened, flow, side, emit, bump, halt, begin, finish, kept, nested}
-use Rattle.emit.specs.Words.{limit, cap, more, goes, is_cut, flow_in, cap_flow}
-use Rattle.emit.specs.Sinks.{going}
+use Rattle.emit.specs.Words.{limit, cap, more}
 
 abbrev pub is_go : Flow → Bool
 is_go Go = true

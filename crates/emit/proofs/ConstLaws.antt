@@ -1,26 +1,25 @@
 -- A constant added and named: the sinks' equations, and what they make of a state. Assumes nothing.
 use mathlib.Core.Path.{◌≡◌, refl, sym, ap, ap₂, ◌∙◌, subst}
-use mathlib.Core.Bool.{Bool, true, false, cond}
+use mathlib.Core.Bool.{Bool, true, false}
 use mathlib.Core.List.{List, [], ◌∷◌}
 use Prim.Native.Nat.{ℕ, suc, ◌+◌, ◌*◌, ◌≤◌, ◌<◌, min}
 use native.Mathlib.Omega.{arith}
 use lib.ListN.{length, set}
 use Rattle.opcode.specs.Words.{pair_of}
 use Rattle.pool.specs.Value.{Value, Const, find, intern}
-use Rattle.pool.specs.Consts.{const_of, table, room, laid, most, added, index_of, count_of, written, Told}
+use Rattle.pool.specs.Consts.{table, room, laid, most, added, index_of, count_of, written, Told}
 use Rattle.pool.specs.ConstValues.{lit_of}
 use Rattle.pool.specs.declared.value.ConstValue.{ConstValue}
 use Rattle.pool.specs.declared.consts.Added.{Added}
 use Rattle.pool.specs.declared.consts.ConstWords.{ConstWords}
 use Rattle.pool.proofs.ConstsLaws.{intern_length, find_intern, added_index, added_count}
 use Rattle.pool.proofs.LaidLaws.{told_const, told_intern, table_laid, written_laid}
-use Rattle.rules.specs.declared.Flow.TheVariants.{Go}
 use Rattle.rules.specs.Marker.{ConstOp, Label, To, Back, Leave, Load, Do, Mark, mark}
-use Rattle.rules.specs.Run.{State, st, marks, labels, loops, opened, flow, side, emit}
+use Rattle.rules.specs.Run.{State, marks, loops, emit}
 use Rattle.rules.specs.Out.{consts, brought, const_number}
-use Rattle.emit.specs.Words.{limit, cap, MARKERS, CONSTS, FLOW, NEST, at, write, put}
+use Rattle.emit.specs.Words.{limit, cap, MARKERS, CONSTS, FLOW, NEST, at, write}
 use Rattle.emit.specs.Sinks.{put2, writes, Pushes, constant, index_in, count_in, Adds, Loads}
-use Rattle.emit.specs.Rep.{Outs, outs, lay, Flat, Walk, Reads, Rep}
+use Rattle.emit.specs.Rep.{Outs, outs, lay, Flat, Walk, Rep}
 use Rattle.emit.proofs.Basics.{clash, on_true, on_false, bool_or, shape}
 use Rattle.emit.proofs.WordLaws.{low_stack}
 use Rattle.emit.proofs.SinkLaws.{writes_so}

@@ -1,8 +1,8 @@
 -- A run's begin, and a function inside another as its own stream. Assumes nothing.
-use mathlib.Core.Path.{◌≡◌, refl, sym, ap, ◌∙◌, subst, subst⁻¹}
+use mathlib.Core.Path.{◌≡◌, refl, sym, ap, ◌∙◌}
 use mathlib.Core.Bool.{Bool, true, false, cond}
-use mathlib.Core.List.{List, [], ◌∷◌}
-use Prim.Native.Nat.{ℕ, suc, ◌≤◌, ◌<◌, min}
+use mathlib.Core.List.{List, []}
+use Prim.Native.Nat.{ℕ, suc, ◌≤◌, ◌<◌}
 use native.Mathlib.Omega.{arith}
 use lib.ListN.{length}
 use lib.Dec.{eqb, ltb}
@@ -13,9 +13,9 @@ use Rattle.rules.specs.declared.Flow.TheVariants.{Go, Refused}
 use Rattle.rules.specs.declared.StackCode.{StackCode}
 use Rattle.rules.specs.declared.StackCode.TheVariants.{Code1, Code2}
 use Rattle.rules.specs.Run.{Error, Side, State, st, marks, labels, loops, opened, flow, side, halt, settle, kept, anew, returned, entered, nested}
-use Rattle.emit.specs.Words.{limit, cap, more, LABELS, DEPTH, FUNCTIONS, FUNCTION, PAST, SIZE, at, Write, write, put, goes, nests, bit, code_of}
-use Rattle.emit.specs.Sinks.{beginning, stopped, outer_of, carry, numbered, inside, back_to, Enters, Keeps}
-use Rattle.emit.specs.Rep.{Outs, outs, Flat, Noted, Walk, within, Stack, Met, Reads, Rep, Lent, Scoped, Sim}
+use Rattle.emit.specs.Words.{limit, cap, more, FUNCTIONS, PAST, SIZE, at, put, goes, nests, bit, code_of}
+use Rattle.emit.specs.Sinks.{beginning, stopped, carry, numbered, inside, back_to, Enters, Keeps}
+use Rattle.emit.specs.Rep.{Outs, outs, Flat, Noted, Walk, within, Stack, Met, Rep, Lent, Sim}
 use Rattle.emit.specs.declared.function.Outer.{Outer}
 use Rattle.emit.proofs.Basics.{clash, on_true, on_false, shape, more_cap, no_nested, no_kept}
 use Rattle.emit.proofs.RepLaws.{given, moved, went, stood, go_flow, halted}

@@ -2,7 +2,7 @@
 use mathlib.Core.Path.{◌≡◌, refl, sym, ap, ◌∙◌, subst}
 use mathlib.Core.Bool.{Bool, true, false, cond}
 use mathlib.Core.List.{List, [], ◌∷◌}
-use Prim.Native.Nat.{ℕ, suc, ◌+◌, ◌-◌, ◌≤◌, ◌<◌}
+use Prim.Native.Nat.{ℕ, suc, ◌+◌, ◌-◌, ◌<◌}
 use native.Mathlib.Omega.{arith}
 use lib.ListN.{length}
 use lib.Dec.{eqb}
@@ -11,7 +11,7 @@ use Rattle.opcode.specs.declared.index.LabelId.{LabelId}
 use Rattle.opcode.specs.Words.{pair_of}
 use Rattle.tables.specs.Record.{Words}
 use Rattle.rules.specs.declared.Flow.TheVariants.{Cut}
-use Rattle.rules.specs.Marker.{Way, Break, Continue, Leave, mark}
+use Rattle.rules.specs.Marker.{Way, Break, Continue, Leave}
 use Rattle.rules.specs.Run.{Loop, loop, State, loops, halt, way_kind, label_of, way_out, outward}
 use Rattle.rules.specs.Out.{way_number}
 use Rattle.emit.specs.Words.{cap, more, DEPTH, LOOPS, KEPT, at}

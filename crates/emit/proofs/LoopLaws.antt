@@ -1,8 +1,8 @@
 -- A loop opens: its label at its place, or all moved down by one. Assumes nothing.
-use mathlib.Core.Path.{◌≡◌, refl, sym, ap, ap₂, ◌∙◌, subst, subst⁻¹}
+use mathlib.Core.Path.{◌≡◌, refl, sym, ap, ◌∙◌, subst⁻¹}
 use mathlib.Core.Bool.{Bool, true, false, cond}
 use mathlib.Core.List.{List, [], ◌∷◌}
-use Prim.Native.Nat.{ℕ, zero, suc, ◌+◌, ◌≤◌, ◌<◌, min}
+use Prim.Native.Nat.{ℕ, zero, suc, ◌+◌, ◌≤◌, ◌<◌}
 use native.Mathlib.Omega.{arith}
 use native.Mathlib.Numerals.{add-one}
 use lib.ListN.{length, set, take, length-set, length-take}
@@ -12,10 +12,10 @@ use borrow.Author.Tests.{eqb-true, eqb-false, ltb-true, ltb-false}
 use Rattle.rules.specs.declared.Flow.TheVariants.{Go, Cut, Refused}
 use Rattle.rules.specs.declared.StackCode.TheVariants.{Code1, Code2}
 use Rattle.rules.specs.Run.{Loop, loop, State, st, marks, labels, loops, opened, flow, side, bump, begin}
-use Rattle.emit.specs.Words.{cap, MARKERS, LABELS, CONSTS, DEPTH, FLOW, WHY, FROM, TO, ERRORS, FUNCTIONS, NEST, FUNCTION, STACK, PAST, LOOPS, KEPT, SIZE, at, flow_in}
+use Rattle.emit.specs.Words.{cap, MARKERS, LABELS, CONSTS, DEPTH, FLOW, WHY, FROM, TO, ERRORS, FUNCTIONS, NEST, FUNCTION, STACK, PAST, LOOPS, KEPT, at, flow_in}
 use Rattle.emit.specs.Sinks.{shifted, opened as opening}
 use Rattle.emit.specs.Rep.{Outs, Walk, Flat, Stack, Reads, Rep}
-use Rattle.emit.proofs.Basics.{clash, shape, no_begin}
+use Rattle.emit.proofs.Basics.{no_begin}
 use Rattle.emit.proofs.WordLaws.{same_stack}
 use Rattle.emit.proofs.RepLaws.{went, if_going}
 

@@ -2,10 +2,10 @@
 use mathlib.Core.Path.{◌≡◌, refl, sym, ap, ap₂, ◌∙◌, subst, subst⁻¹}
 use mathlib.Core.Bool.{Bool, true, false, cond}
 use mathlib.Core.List.{List, [], ◌∷◌}
-use Prim.Native.Nat.{ℕ, suc, ◌+◌, ◌*◌, ◌≤◌, ◌<◌, min}
+use Prim.Native.Nat.{ℕ, suc, ◌+◌, ◌*◌, ◌≤◌, ◌<◌}
 use native.Mathlib.Omega.{arith}
-use lib.ListN.{length, set}
-use lib.Dec.{eqb, ltb}
+use lib.ListN.{length}
+use lib.Dec.{ltb}
 use borrow.Author.Tests.{eqb-true, ltb-false}
 use Rattle.opcode.specs.declared.opcode.Words.{Words as MarkerWords}
 use Rattle.opcode.specs.Words.{pair_of}
@@ -14,11 +14,11 @@ use Rattle.pool.specs.Consts.{laid, put3, AllTold}
 use Rattle.rules.specs.declared.Flow.{Flow}
 use Rattle.rules.specs.declared.Flow.TheVariants.{Go, Cut, Refused}
 use Rattle.rules.specs.Marker.{Forward, Code, Op, Label, To, Back, Leave, Load, Do, Mark, mark}
-use Rattle.rules.specs.Run.{Error, error, State, st, marks, labels, loops, opened, flow, side, emit, settle}
+use Rattle.rules.specs.Run.{State, st, marks, labels, loops, opened, flow, side, emit, settle}
 use Rattle.rules.specs.Out.{consts, code_word, operand_word, forward_number, code_number}
-use Rattle.emit.specs.Words.{limit, cap, more, MARKERS, CONSTS, FLOW, WHY, FROM, TO, ERRORS, at, Write, write, goes, nests, is_cut, flow_in, cap_flow}
+use Rattle.emit.specs.Words.{limit, cap, more, MARKERS, CONSTS, FLOW, WHY, FROM, TO, ERRORS, at, write, goes, nests, is_cut, cap_flow}
 use Rattle.emit.specs.Sinks.{put2, writes, Pushes, noted, Keeps}
-use Rattle.emit.specs.Rep.{Outs, outs, lay, note, Flat, Noted, Walk, Reads, Rep, Shown}
+use Rattle.emit.specs.Rep.{Outs, outs, lay, note, Flat, Walk, Rep, Shown}
 use Rattle.emit.proofs.Basics.{clash, on_true, on_false, shape, more_cap, no_emit}
 use Rattle.emit.proofs.WordLaws.{low_stack}
 use Rattle.emit.proofs.SinkLaws.{writes_so, flow_cut, cut_words, cut}

@@ -3,14 +3,14 @@ use mathlib.Core.Path.{◌≡◌, refl, sym, ap, ◌∙◌}
 use mathlib.Core.List.{List, [], ◌∷◌}
 use Prim.Native.Nat.{ℕ, zero, suc}
 use Rattle.tables.specs.Record.{words}
-use Rattle.tables.specs.Forest.{Forest, none, tree, Nodes, bare, node, first, next, forest, children, own_tree}
+use Rattle.tables.specs.Forest.{Forest, Nodes, bare, node, first, next, forest, children, own_tree}
 use Rattle.tables.proofs.ForestLaws.{forest_absent, forest_record}
 use Rattle.rules.specs.Marker.{Pop, Do, mark}
 use Rattle.rules.specs.Step.{Role, Expr, Step, visits, null, width}
 use Rattle.rules.specs.Arms.{block_from, block_steps}
 use Rattle.rules.specs.Run.{State, emit, kept, exec}
 use Rattle.emit.specs.Rep.{Walk, Lent}
-use Rattle.emit.specs.Does.{nth, visit_in, near, doing, does, through, items}
+use Rattle.emit.specs.Does.{nth, near, doing, does, through, items}
 
 module _ (recs : List ℕ) where
   pub nth_next : (j c : ℕ) → next recs (nth recs j c) ≡ nth recs (suc j) c

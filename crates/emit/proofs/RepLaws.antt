@@ -2,51 +2,22 @@
 use mathlib.Core.Path.{◌≡◌, refl, sym, ap, ◌∙◌, subst, subst⁻¹}
 use mathlib.Core.Bool.{Bool, true, false, cond}
 use mathlib.Core.List.{List, [], ◌∷◌}
-use Prim.Native.Nat.{ℕ, zero, suc, ◌+◌, ◌-◌, ◌≤◌, ◌<◌, min}
+use Prim.Native.Nat.{ℕ, zero, suc, ◌-◌, ◌≤◌}
 use native.Mathlib.Omega.{arith}
 use lib.ListN.{length, set}
 use lib.Seq.{set-get_or}
-use lib.Dec.{eqb, ltb, lit<}
-use borrow.Author.Tests.{eqb-true, eqb-false, eq-eqb, ne_eqb, ltb-true, ltb-false}
+use lib.Dec.{ltb}
+use borrow.Author.Tests.{ltb-false}
 use Rattle.tables.specs.Refusal.{run_number, rule_of}
 use Rattle.tables.specs.declared.refusal.RunRule.{RunRule}
 use Rattle.tables.specs.declared.refusal.RunRule.TheVariants as rule
 use Rattle.rules.specs.declared.Flow.{Flow}
 use Rattle.rules.specs.declared.Flow.TheVariants.{Go, Cut, Refused}
 use Rattle.rules.specs.Run.{Loop, State, st, marks, labels, loops, opened, flow, side, loop, bump, halt, finish, drop1}
-use Rattle.emit.specs.Words.{
-  limit,
-  cap,
-  more,
-  MARKERS,
-  LABELS,
-  CONSTS,
-  DEPTH,
-  FLOW,
-  WHY,
-  FROM,
-  TO,
-  ERRORS,
-  FUNCTIONS,
-  NEST,
-  FUNCTION,
-  LOOPS,
-  KEPT,
-  SIZE,
-  at,
-  Write,
-  write,
-  put,
-  overwritten,
-  goes,
-  is_cut,
-  flow_in,
-  flow_words,
-  cap_flow,
-}
+use Rattle.emit.specs.Words.{cap, more, LABELS, DEPTH, WHY, FROM, TO, SIZE, at, Write, write, put, overwritten, goes, is_cut, flow_in, flow_words, cap_flow}
 use Rattle.emit.specs.Sinks.{going, took, took_many, Takes, stopped, closed}
-use Rattle.emit.specs.Rep.{Outs, Walk, Flat, Stack, Reads, Rep, Lent, lent, Scoped, Moves, Sim}
-use Rattle.emit.proofs.Basics.{is_go, clash, on_true, on_false, is_go_lem, shape, more_cap, Rests, no_bump, no_halt, no_finish}
+use Rattle.emit.specs.Rep.{Outs, Walk, Stack, Reads, Rep, Lent, lent, Scoped, Moves, Sim}
+use Rattle.emit.proofs.Basics.{is_go, on_true, on_false, is_go_lem, shape, more_cap, Rests, no_bump, no_halt, no_finish}
 use Rattle.emit.proofs.WordLaws.{below, length_put, at_put, low_stack}
 
 -- ---- the words that are written, and nothing else

@@ -6,66 +6,20 @@ use mathlib.Core.Logic.{◌⊎◌, inl, inr}
 use denote.Enum.Declared.{tag_of}
 use Rattle.rules.specs.contracts.Flow.{the_type}
 use Rattle.emit.specs.contracts.loops.LabelLookup.{the_type as look-type}
-use Prim.Native.Nat.{ℕ, suc, ◌+◌, ◌-◌, ◌*◌, ◌≤◌, ◌<◌}
+use Prim.Native.Nat.{ℕ, ◌+◌, ◌-◌, ◌*◌, ◌≤◌, ◌<◌}
 use native.Mathlib.Omega.{arith}
 use native.Mathlib.Numerals.{add-one}
 use lib.ListN.{length, set}
 use lib.Dec.{eqb, ltb}
-use borrow.Author.Tests.{eq-eqb, ne_eqb, eqb-true, eqb-false, lt-ltb, le-ltb, ltb-true}
+use borrow.Author.Tests.{eq-eqb, ne_eqb, eqb-true, lt-ltb, le-ltb, ltb-true}
 use Rattle.opcode.specs.declared.index.LabelId.{LabelId}
 use Rattle.opcode.specs.declared.opcode.Words.{Words as MarkerWords}
 use Rattle.tables.specs.Refusal.{rule_of}
 use Rattle.pool.specs.Consts.{put3}
 use Rattle.rules.specs.declared.Flow.{Flow}
 use Rattle.rules.specs.declared.Flow.TheVariants.{Go, Cut, Refused}
-use Rattle.emit.specs.Words.{
-  limit,
-  cap,
-  more,
-  MARKERS,
-  LABELS,
-  DEPTH,
-  FLOW,
-  WHY,
-  FROM,
-  TO,
-  ERRORS,
-  FUNCTIONS,
-  FUNCTION,
-  PAST,
-  LOOPS,
-  KEPT,
-  at,
-  write,
-  put,
-  goes,
-  nests,
-  is_cut,
-  flow_in,
-  flow_words,
-}
-use Rattle.emit.specs.Sinks.{
-  put2,
-  took,
-  took_many,
-  Takes,
-  writes,
-  Pushes,
-  loop_at,
-  loop_set,
-  shifted,
-  opened,
-  continue_of,
-  break_of,
-  noted,
-  Keeps,
-  carry,
-  numbered,
-  inside,
-  outer_of,
-  Enters,
-}
-use Rattle.emit.specs.declared.function.Outer.{Outer}
+use Rattle.emit.specs.Words.{limit, cap, more, MARKERS, LABELS, DEPTH, FLOW, WHY, FROM, TO, ERRORS, FUNCTIONS, FUNCTION, PAST, LOOPS, KEPT, at, write, goes, nests, is_cut, flow_in}
+use Rattle.emit.specs.Sinks.{put2, took, took_many, Takes, writes, Pushes, loop_at, loop_set, shifted, opened, continue_of, break_of, noted, Keeps, carry, numbered, Enters}
 use Rattle.emit.specs.declared.loops.LabelLookup.{LabelLookup}
 use Rattle.emit.specs.declared.loops.LabelLookup.TheVariants.{Found, Absent}
 use Rattle.emit.proofs.Basics.{clash, on_true, on_false}

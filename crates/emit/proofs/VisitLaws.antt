@@ -1,19 +1,18 @@
 -- A record's visit is its steps, with the children by their numbers. Assumes nothing.
-use mathlib.Core.Path.{◌≡◌, refl, sym, ap, ◌∙◌, fun_ext, subst}
+use mathlib.Core.Path.{◌≡◌, refl, sym, ap, ◌∙◌, fun_ext}
 use mathlib.Core.Bool.{Bool, true, false, cond}
 use mathlib.Core.List.{List, [], ◌∷◌}
 use Prim.Native.Nat.{ℕ, zero, suc}
-use native.Mathlib.Omega.{arith}
 use lib.ListN.{get_or}
 use Rattle.tables.specs.Record.{Words, words, is_function}
 use Rattle.tables.specs.Forest.{Forest, none, tree, first, next, forest, children, own_tree}
 use Rattle.tables.proofs.ForestLaws.{forest_absent, forest_record}
 use Rattle.rules.specs.Arms.{stream_steps}
 use Rattle.rules.specs.Kinds.{steps}
-use Rattle.rules.specs.Step.{Role, ChildPath, Step}
-use Rattle.rules.specs.Run.{State, Spot, here, nowhere, Lookup, exec, idle, stream, Visit, absent, child_visit, visit_alg, visits_of, from_tree, spot_below, spot_at, number_of}
-use Rattle.emit.specs.Rep.{Outs, Walk, within, mode, Rep, Lent, Sim}
-use Rattle.emit.specs.Does.{nth, child, reach, spot, noted_look, visit_at, visit_in, own_stream, near, doing, does}
+use Rattle.rules.specs.Step.{Role, ChildPath}
+use Rattle.rules.specs.Run.{State, nowhere, Lookup, exec, idle, stream, Visit, absent, child_visit, visits_of, from_tree, spot_below, spot_at, number_of}
+use Rattle.emit.specs.Rep.{Walk, within, mode, Lent}
+use Rattle.emit.specs.Does.{nth, reach, spot, noted_look, visit_at, visit_in, own_stream, near, doing, does}
 
 module _ (recs : List ℕ) where
   pub number_spot : (i : ℕ) → number_of (spot recs i) ≡ i

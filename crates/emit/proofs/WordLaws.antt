@@ -1,17 +1,17 @@
 -- What is read of words that were written: one law for all of a frame's places. Assumes nothing.
-use mathlib.Core.Path.{◌≡◌, refl, sym, ap, ◌∙◌, fun_ext, subst⁻¹}
+use mathlib.Core.Path.{◌≡◌, refl, sym, ap, ◌∙◌, fun_ext}
 use mathlib.Core.Bool.{Bool, true, false, cond}
 use mathlib.Core.List.{List, [], ◌∷◌}
-use Prim.Native.Nat.{ℕ, ◌+◌, ◌≤◌, ◌<◌}
+use Prim.Native.Nat.{ℕ, ◌+◌, ◌<◌}
 use native.Mathlib.Omega.{arith}
-use lib.ListN.{length, get_or, set, length-set}
+use lib.ListN.{length, set, length-set}
 use lib.Seq.{get_or-set_same, get_or-set_other}
 use lib.Dec.{eqb, ltb}
 use borrow.Author.Tests.{eqb-true, eqb-false, ne_eqb, ltb-true}
 use Rattle.rules.specs.Run.{Loop, loop}
 use Rattle.emit.specs.Words.{LOOPS, SIZE, at, Write, write, put, overwritten}
 use Rattle.emit.specs.Rep.{Stack}
-use Rattle.emit.proofs.Basics.{clash, on_true, on_false}
+use Rattle.emit.proofs.Basics.{clash, on_false}
 
 -- all places are below n: computes where they are numbers
 abbrev pub below : ℕ → List Write → Bool

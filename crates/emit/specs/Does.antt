@@ -8,7 +8,7 @@ use Rattle.rules.specs.declared.StackCode.{StackCode}
 use Rattle.rules.specs.Marker.{Pop, Do, mark}
 use Rattle.rules.specs.Step.{Role, Expr, Use, Get, Set, ChildPath, Step}
 use Rattle.rules.specs.Run.{State, Spot, here, nowhere, number_of, Lookup, emit, kept, exec, stream, Visit, absent, visits_of}
-use Rattle.emit.specs.Rep.{Walk, mode, Lent, lent, Outs, outs, Sim}
+use Rattle.emit.specs.Rep.{Walk, mode, Lent, lent, outs, Sim}
 
 -- the j-th sibling of the record c, which is its 0-th
 abbrev pub nth : List ℕ → ℕ → ℕ → ℕ

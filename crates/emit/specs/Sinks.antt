@@ -1,7 +1,6 @@
 -- What the sinks make of the words: the contracts' right sides. Definitions only.
-use Rattle.std.specs.Prelude.{◌≡◌, Bool, true, false, cond, List, [], ◌∷◌, ℕ, zero, suc, ◌+◌, ◌-◌, ◌*◌, min, length, get_or, set, eqb, ltb}
+use Rattle.std.specs.Prelude.{◌≡◌, Bool, false, cond, List, [], ◌∷◌, ℕ, zero, suc, ◌+◌, ◌-◌, ◌*◌, min, length, set, eqb, ltb}
 use Rattle.opcode.specs.declared.opcode.Words.{Words as MarkerWords}
-use Rattle.opcode.specs.declared.index.LabelId.{LabelId}
 use Rattle.opcode.specs.Words.{pair_of}
 use Rattle.pool.specs.Value.{Const, find, intern}
 use Rattle.pool.specs.Consts.{put3, const_of, table, most, written}

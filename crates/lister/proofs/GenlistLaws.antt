@@ -1,14 +1,12 @@
 -- Laws of what genlist prints: of an answer, of tables, of a text. Assumes nothing.
-use mathlib.Core.Bool.{Bool, true, false, cond}
-use mathlib.Core.List.{List, [], ◌∷◌}
+use mathlib.Core.Bool.{Bool, cond}
+use mathlib.Core.List.{List}
 use mathlib.Core.Path.{◌≡◌, refl, sym, ap, subst, ◌∙◌}
 use Prim.Native.Nat.{ℕ, ◌+◌, ◌≤◌, ◌<◌}
 use native.Mathlib.Omega.{arith}
 use lib.ListN.{length, take, replicate, length-replicate}
-use lib.Dec.{ltb}
 use borrow.Author.Tests.{lt-ltb, le-ltb}
 use Rattle.pool.specs.NameWords.{over}
-use Rattle.rules.specs.Out.{Out}
 use Rattle.codegen.specs.Call.{answer_of, out_of, lists}
 use Rattle.codegen.specs.declared.call.Answer.{Answer}
 use Rattle.listing.specs.declared.read.Reading.{Reading}

@@ -1,5 +1,5 @@
 -- The text that genlist prints of the text that it is given (document 01, 'The listing program'). Definitions only.
-use Rattle.std.specs.Prelude.{Bool, true, false, cond, List, [], ◌∷◌, ℕ, ◌+◌, length, take, replicate, ltb, eqb}
+use Rattle.std.specs.Prelude.{cond, List, [], ◌∷◌, ℕ, ◌+◌, length, take, replicate, ltb, eqb}
 use Rattle.tables.specs.Refusal.{number_of, place_of}
 use Rattle.pool.specs.Names.{Semantic, semantic}
 use Rattle.pool.specs.NameWords.{over}

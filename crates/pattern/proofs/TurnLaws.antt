@@ -18,7 +18,7 @@ use Rattle.rules.specs.Marker.{Pop, Do, mark}
 use Rattle.rules.specs.Step.{width}
 use Rattle.rules.specs.Patterns.{Part, item, key, value, parts, is_nested, grown, labels_after, pattern_size}
 use Rattle.rules.specs.Run.{State, emit, bump}
-use Rattle.emit.specs.Words.{limit, cap, more, at}
+use Rattle.emit.specs.Words.{limit, cap, more}
 use Rattle.emit.specs.Sinks.{Pushes}
 use Rattle.emit.specs.Rep.{lent, Outs, outs, Sim}
 use Rattle.emit.proofs.Basics.{on_true}

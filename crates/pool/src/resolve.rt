@@ -91,8 +91,8 @@ fn parent_owner(functions: &[u32], f: usize) -> usize
 
 // One pass over the functions: where each one's names begin, and the functions inside each.
 fn functions_inside(functions: &[u32], spans: &mut [u32], scope: &mut Scope)
-    requires functions_bound { pairs_of functions.now ≤ 256 }
-    requires functions_bound_2 { share_start functions.now (pairs_of functions.now) ≤ 1024 }
+    requires few_functions { pairs_of functions.now ≤ 256 }
+    requires few_members { share_start functions.now (pairs_of functions.now) ≤ 1024 }
     ensures { Begun functions.now spans.old scope.old spans.new scope.new }
 {
     let n = pairs(functions);

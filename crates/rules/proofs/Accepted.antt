@@ -2,17 +2,17 @@
 -- record, 1 name per member, 1 line per function" is room enough. Assumes nothing.
 use mathlib.Core.Path.{◌≡◌, refl, sym, ap, subst, ◌∙◌}
 use mathlib.Core.Bool.{Bool, true, false, cond}
-use mathlib.Core.List.{List, [], ◌∷◌, ◌++◌}
-use Prim.Native.Nat.{ℕ, zero, suc, ◌+◌, ◌*◌, ◌≤◌, ◌<◌}
+use mathlib.Core.List.{List, ◌∷◌}
+use Prim.Native.Nat.{ℕ, ◌+◌, ◌*◌, ◌≤◌, ◌<◌}
 use native.Mathlib.Omega.{arith}
 use lib.ListN.{length, length-append}
 use lib.Dec.{T, eqb→eq}
-use Rattle.tables.specs.Record.{Words, words, size, is_function}
+use Rattle.tables.specs.Record.{words, size, is_function}
 use Rattle.tables.specs.Forest.{Forest, none, tree, root}
 use Rattle.tables.specs.Semantic.{pairs}
 use Rattle.tables.specs.declared.numbering.Manner.{Manner}
 use Rattle.tables.specs.declared.numbering.Manner.TheVariants.{Stored, RightFirst, RightThenBack}
-use Rattle.tables.specs.Numbering.{Visit, Order, stored, rights, lefts, back, in_order, inside, entered, within, manner, is_left, visited, functions}
+use Rattle.tables.specs.Numbering.{Visit, Order, stored, rights, lefts, back, in_order, inside, entered, within, manner, is_left, visited}
 use Rattle.tables.proofs.CheckLaws.{Kept}
 use Rattle.pool.specs.Names.{Semantic}
 use Rattle.rules.specs.declared.StackCode.{StackCode}
@@ -23,7 +23,7 @@ use Rattle.rules.proofs.Writes.{Clean}
 use Rattle.rules.proofs.Shapes.{table_shaped}
 use Rattle.rules.proofs.DemandHolds.{demand3}
 use Rattle.rules.proofs.Bounds.{function_count, table_bounds}
-use Rattle.rules.proofs.OutBounds.{OutBounds, out_bounds}
+use Rattle.rules.proofs.OutBounds.{out_bounds}
 use Rattle.rules.proofs.NameBounds.{names_bound}
 
 -- in each order a forest's functions are met once

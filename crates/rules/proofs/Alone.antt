@@ -1,93 +1,23 @@
 -- Function by function equals nested: in a run that is not refused, each function's stream is that of walking its own tree alone. Assumes nothing.
 use mathlib.Core.Path.{◌≡◌, refl, sym, ap, ap₂, subst, ◌∙◌}
 use mathlib.Core.Bool.{Bool, true, false, cond}
-use mathlib.Core.List.{List, [], ◌∷◌, map}
+use mathlib.Core.List.{List, [], ◌∷◌}
 use Prim.Native.Nat.{ℕ, zero, suc}
 use lib.ListN.{get_or}
 use lib.Dec.{eqb}
 use Rattle.tables.specs.Record.{Words, words, is_do}
-use Rattle.tables.specs.Forest.{Forest, none, tree, children, first, fold, own_tree}
+use Rattle.tables.specs.Forest.{Forest, none, tree, children, first, own_tree}
 use Rattle.tables.proofs.ForestLaws.{Each, each, each_at, Genuine, genuine}
 use Rattle.pool.specs.Names.{Access, local, global, upvalue, missing}
 use Rattle.rules.specs.declared.StackCode.{StackCode}
-use Rattle.rules.specs.Marker.{Way, Code, Pop, LoadLocals, Return, Op, Label, To, Back, Load, Do, Mark, mark}
-use Rattle.rules.specs.Step.{
-  Role,
-  Expr,
-  Keep,
-  pass,
-  keep,
-  Use,
-  Step,
-  push_op,
-  push_const,
-  get_label,
-  place,
-  jump,
-  jump_back,
-  visit,
-  begin_loop,
-  end_loop,
-  exit,
-  check_return,
-  access,
-  refuse,
-  inner,
-  expr,
-}
+use Rattle.rules.specs.Marker.{Way, Code, Pop, LoadLocals, Return, Label, To, Back, Load, Do, Mark, mark}
+use Rattle.rules.specs.Step.{Role, Expr, pass, keep, Use, Step, push_op, push_const, get_label, place, jump, jump_back, visit, begin_loop, end_loop, exit, check_return, access, refuse, inner, expr}
 use Rattle.rules.specs.Arms.{stream_steps}
 use Rattle.rules.specs.Kinds.{steps}
-use Rattle.rules.specs.Run.{
-  Lookup,
-  Loop,
-  loop,
-  Stream,
-  Side,
-  State,
-  st,
-  flow,
-  side,
-  marks,
-  loops,
-  opened,
-  labels,
-  emit,
-  bump,
-  halt,
-  begin,
-  finish,
-  way_out,
-  outward,
-  barred,
-  sought,
-  settle,
-  kept,
-  anew,
-  returned,
-  entered,
-  nested,
-  idle,
-  Mode,
-  full,
-  act,
-  named,
-  exec,
-  Visit,
-  absent,
-  child_visit,
-  stream,
-  visit_alg,
-  visits_of,
-  function_run,
-  nothing,
-  run,
-  alone,
-  spot_at,
-  number_of,
-}
+use Rattle.rules.specs.Run.{Lookup, Loop, loop, Stream, Side, State, st, flow, side, marks, loops, opened, labels, emit, bump, halt, begin, finish, way_out, outward, barred, sought, settle, kept, anew, returned, entered, nested, idle, Mode, act, named, exec, Visit, absent, child_visit, stream, visit_alg, visits_of, function_run, nothing, alone, spot_at, number_of}
 use Rattle.rules.specs.declared.Flow.{Flow}
 use Rattle.rules.specs.declared.Flow.TheVariants.{Go, Cut, Refused}
-use Rattle.rules.proofs.Sticky.{Ended, Sticky, emit_sticky, exec_sticky, visits_sticky}
+use Rattle.rules.proofs.Sticky.{Sticky, emit_sticky, exec_sticky, visits_sticky}
 use Rattle.rules.proofs.Numbers.{Every}
 
 -- two states that are the same but for what goes through all functions

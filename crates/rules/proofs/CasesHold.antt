@@ -2,32 +2,15 @@
 use mathlib.Core.Path.{◌≡◌, refl}
 use mathlib.Core.Bool.{Bool, true, false, ◌&&◌}
 use mathlib.Core.List.{List, [], ◌∷◌}
-use Prim.Native.Nat.{ℕ}
 use lib.Dec.{T}
 use Rattle.tables.specs.Forest.{guarded, first, next, grow, forest}
 use Rattle.pool.specs.Value.{same_list_lem, find, seen, intern}
 use Rattle.tables.specs.Semantic.{share_start}
 use Rattle.pool.specs.Names.{index_of, with_symbol, with_symbols, names_upto, names, load, store}
-use Rattle.rules.specs.declared.StackCode.{StackCode}
 use Rattle.rules.specs.declared.StackCode.TheVariants.{Code1}
 use Rattle.rules.specs.Kinds.{steps}
 use Rattle.rules.specs.Run.{emit, bump, halt, begin, finish, outward, barred, kept, nested, exec, stream, run}
-use Rattle.rules.specs.Out.{
-  Out,
-  Outcome,
-  listed,
-  refused,
-  consts,
-  marker_words,
-  const_words,
-  plain_names,
-  upvalue_words,
-  error_words,
-  loop_depth,
-  stream_of_lem,
-  each_function,
-  outcome,
-}
+use Rattle.rules.specs.Out.{Outcome, listed, refused, consts, marker_words, const_words, plain_names, upvalue_words, error_words, loop_depth, stream_of_lem, each_function, outcome}
 use Rattle.rules.specs.Cases.{Case, cases, empty}
 use Rattle.rules.specs.RequestCases.{Request, requests}
 

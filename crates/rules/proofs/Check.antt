@@ -2,29 +2,10 @@
 -- the record's own loop. Definitions.
 use mathlib.Core.Bool.{Bool, true, false, cond, ◌&&◌, ◌||◌}
 use mathlib.Core.List.{List, [], ◌∷◌}
-use Prim.Native.Nat.{ℕ, zero, suc}
+use Prim.Native.Nat.{ℕ, suc}
 use lib.ListN.{get_or}
 use lib.Dec.{eqb}
-use Rattle.rules.specs.Step.{
-  Role,
-  Keep,
-  Use,
-  Step,
-  push_op,
-  push_const,
-  get_label,
-  place,
-  jump,
-  jump_back,
-  visit,
-  begin_loop,
-  end_loop,
-  exit,
-  check_return,
-  access,
-  refuse,
-  inner,
-}
+use Rattle.rules.specs.Step.{Step, push_op, push_const, get_label, place, jump, jump_back, visit, begin_loop, end_loop, exit, check_return, access, refuse, inner}
 use Rattle.rules.specs.Run.{Loop, loop}
 
 abbrev pub has : ℕ → List ℕ → Bool

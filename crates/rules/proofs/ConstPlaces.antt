@@ -1,37 +1,21 @@
 -- A stream's constants: they differ, each but Null 0 is named, and every index is inside. Assumes nothing.
 use mathlib.Core.Path.{◌≡◌, refl, sym, ap, subst, ◌∙◌}
 use mathlib.Core.Logic.{◌⊎◌, inl, inr}
-use mathlib.Core.Bool.{Bool, true, false, cond}
+use mathlib.Core.Bool.{Bool, true, false}
 use mathlib.Core.List.{List, [], ◌∷◌, ◌++◌, reverse_aux}
-use Prim.Native.Nat.{ℕ, zero, suc, ◌+◌, ◌≤◌, ◌<◌}
+use Prim.Native.Nat.{ℕ, zero, suc, ◌≤◌, ◌<◌}
 use native.Mathlib.Omega.{arith}
-use native.Mathlib.Decide.{ℕ_discrete, dec_le}
+use native.Mathlib.Decide.{dec_le}
 use lib.ListN.{length, get_or, length-append}
-use lib.Dec.{T, eqb}
 use Rattle.opcode.specs.Kinds.{operand_kind}
 use Rattle.opcode.specs.declared.opcode.OperandKind.TheVariants as kind
 use Rattle.opcode.specs.declared.tables.KindLookup.TheVariants as lookup
-use Rattle.pool.specs.Value.{Value, plain, effect, Const, same, find, seen, intern, start}
-use Rattle.pool.proofs.ConstsLaws.{
-  find_unseen,
-  find_seen,
-  seen_inside,
-  find_value,
-  intern_old,
-  intern_new,
-  find_intern,
-  seen_intern,
-  find_later,
-  seen_later,
-  Different,
-  different_start,
-  different_intern,
-  differ,
-}
+use Rattle.pool.specs.Value.{Value, plain, effect, Const, find, seen, intern}
+use Rattle.pool.proofs.ConstsLaws.{find_unseen, find_seen, intern_old, intern_new, find_intern, seen_intern, find_later, seen_later, Different, different_start, different_intern, differ}
 use Rattle.rules.specs.Marker.{ConstOp, LoadConst, Import, ImportFrom, Op, Label, To, Back, Leave, Load, Do, Mark, mark}
 use Rattle.rules.specs.Out.{brought, consts, const_number, code_word, operand_word}
 use Rattle.rules.specs.Demand.{code, operand, no_const, Constants, KnownFunction}
-use Rattle.rules.proofs.Known.{Known, KnownMark, AllKnown}
+use Rattle.rules.proofs.Known.{Known, AllKnown}
 use Rattle.rules.proofs.OnWords.{op_of, blank, words_of, code_at, operand_at}
 
 pub different : (ms : List Mark) → Different (consts ms)

@@ -95,7 +95,7 @@ use Rattle.rules.specs.Arms.{
   after_steps,
 }
 use Rattle.rules.specs.Patterns.{cases_tests, match_steps, case_steps}
-use Rattle.rules.specs.Kinds.{Kind, kind, kinds, steps_of, steps}
+use Rattle.rules.specs.Kinds.{Kind, kinds, steps_of, steps}
 use Rattle.rules.specs.Run.{from_tree}
 use Rattle.rules.proofs.Shapes.{Shaped, for_shape, unpack_shape, function_shape, match_shape}
 use Rattle.rules.proofs.Cost.{rep, Rates, weigh, child_cost, stream_cost, costs_of, cost_of}

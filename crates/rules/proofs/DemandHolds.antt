@@ -1,7 +1,7 @@
 -- Demand 3: it holds of every function of a run that ends without an error. Assumes nothing.
-use mathlib.Core.Path.{◌≡◌, refl, sym, ap, subst, ◌∙◌}
-use mathlib.Core.List.{List, [], ◌∷◌, reverse_aux, reverse_aux-reverse_aux-nil}
-use Prim.Native.Nat.{ℕ, zero, suc, ◌+◌, ◌≤◌, ◌<◌}
+use mathlib.Core.Path.{◌≡◌, sym, ap, subst, ◌∙◌}
+use mathlib.Core.List.{List, [], reverse_aux, reverse_aux-reverse_aux-nil}
+use Prim.Native.Nat.{ℕ, suc, ◌<◌}
 use native.Mathlib.Omega.{arith}
 use lib.ListN.{length, get_or, length-reverse_aux}
 use Rattle.tables.specs.Record.{words}
@@ -11,27 +11,11 @@ use Rattle.pool.specs.Value.{Const}
 use Rattle.pool.specs.Names.{Semantic, names}
 use Rattle.rules.specs.declared.StackCode.{StackCode}
 use Rattle.rules.specs.Marker.{Mark}
-use Rattle.rules.specs.Run.{look, Loop, Stream, Side, side, run}
+use Rattle.rules.specs.Run.{look, Loop, Stream, side, run}
 use Rattle.rules.specs.Out.{consts, marker_words, stream_of_lem}
 use Rattle.rules.specs.Counts.{labels_counted}
 use Rattle.rules.specs.Around.{Around}
-use Rattle.rules.specs.Demand.{
-  code,
-  operand,
-  Labels,
-  Loops,
-  Opened,
-  Constants,
-  Indices,
-  WithinFound,
-  FunctionSound,
-  Demand3,
-  record_of,
-  continue_of,
-  break_of,
-  no_loop,
-}
-use Rattle.rules.proofs.Segment.{Seg}
+use Rattle.rules.specs.Demand.{code, operand, Labels, Loops, Constants, WithinFound, FunctionSound, Demand3, record_of}
 use Rattle.rules.proofs.Visits.{body_of, stream_at}
 use Rattle.rules.proofs.Writes.{Clean}
 use Rattle.rules.proofs.Numbers.{run_numbered, stream_found}

@@ -12,7 +12,7 @@ use Rattle.tables.specs.declared.refusal.RunRule.TheVariants.{Skipped}
 use Rattle.tables.proofs.ForestLaws.{Each, each, and_r}
 use Rattle.pool.specs.Value.{function}
 use Rattle.pool.specs.Names.{Access, local, global, upvalue, missing}
-use Rattle.rules.specs.Marker.{Way, Mark, Call, Pop, LoadLocals, Return}
+use Rattle.rules.specs.Marker.{Way, Mark, Call}
 use Rattle.rules.specs.Step.{
   Role,
   Keep,

@@ -1,96 +1,23 @@
 -- Every Function constant is the number of a function that the run has met. Assumes nothing.
-use mathlib.Core.Path.{◌≡◌, refl, sym, ap, subst, ◌∙◌}
-use mathlib.Core.Bool.{Bool, true, false, not, cond, ◌&&◌}
+use mathlib.Core.Path.{◌≡◌, refl, sym, subst}
+use mathlib.Core.Bool.{Bool, true, false, cond, ◌&&◌}
 use mathlib.Core.List.{List, [], ◌∷◌}
-use Prim.Native.Nat.{ℕ, zero, suc, ◌≤◌, ◌<◌}
+use Prim.Native.Nat.{ℕ, suc, ◌≤◌, ◌<◌}
 use native.Mathlib.Omega.{arith}
 use native.Mathlib.Decide.{ℕ_discrete}
 use lib.ListN.{get_or}
-use lib.Dec.{T, eqb, eqb→eq, not_T, T_not}
+use lib.Dec.{T, eqb, eqb→eq, T_not}
 use Rattle.tables.specs.Record.{Words, words, is_do}
 use Rattle.tables.specs.Forest.{Forest, none, tree, children, own_tree}
 use Rattle.tables.proofs.ForestLaws.{and_l, and_r, Each, each, each_at}
 use Rattle.pool.specs.Names.{Access, local, global, upvalue, missing}
 use Rattle.pool.specs.Value.{Value, plain, effect, function}
 use Rattle.rules.specs.declared.StackCode.{StackCode}
-use Rattle.rules.specs.Marker.{Way, Code, Pop, Call, LoadUpvalue, LoadLocals, Return, LoadConst, Op, Label, To, Back, Leave, Load, Do, Mark, mark}
-use Rattle.rules.specs.Step.{
-  Role,
-  Expr,
-  Keep,
-  pass,
-  keep,
-  Use,
-  Step,
-  push_op,
-  push_const,
-  get_label,
-  place,
-  jump,
-  jump_back,
-  visit,
-  begin_loop,
-  end_loop,
-  exit,
-  check_return,
-  access,
-  refuse,
-  inner,
-  expr,
-  load,
-}
-use Rattle.rules.specs.Arms.{function_steps, stream_steps}
+use Rattle.rules.specs.Marker.{Way, Pop, Call, LoadUpvalue, LoadLocals, Return, LoadConst, Label, To, Back, Leave, Load, Do, Mark, mark}
+use Rattle.rules.specs.Step.{Role, pass, keep, Use, Step, push_op, push_const, get_label, place, jump, jump_back, visit, begin_loop, end_loop, exit, check_return, access, refuse, inner, expr, load}
+use Rattle.rules.specs.Arms.{stream_steps}
 use Rattle.rules.specs.Kinds.{steps}
-use Rattle.rules.specs.Run.{
-  Lookup,
-  Loop,
-  loop,
-  way_kind,
-  label_of,
-  local_code,
-  global_code,
-  Stream,
-  Side,
-  State,
-  st,
-  marks,
-  labels,
-  loops,
-  flow,
-  side,
-  emit,
-  bump,
-  halt,
-  begin,
-  finish,
-  way_out,
-  outward,
-  barred,
-  sought,
-  settle,
-  kept,
-  keeping,
-  anew,
-  returned,
-  entered,
-  nested,
-  idle,
-  Mode,
-  full,
-  act,
-  named,
-  exec,
-  Visit,
-  absent,
-  child_visit,
-  stream,
-  visit_alg,
-  visits_of,
-  nothing,
-  run,
-  spot_at,
-  number_of,
-}
+use Rattle.rules.specs.Run.{Lookup, Loop, loop, way_kind, label_of, local_code, global_code, Stream, Side, State, st, marks, labels, loops, flow, side, emit, bump, halt, begin, finish, way_out, outward, barred, sought, settle, kept, anew, returned, entered, nested, idle, full, act, named, exec, Visit, absent, child_visit, stream, visit_alg, visits_of, nothing, run, spot_at, number_of}
 use Rattle.rules.specs.declared.Flow.{Flow}
 use Rattle.rules.specs.declared.Flow.TheVariants.{Go, Cut, Refused}
 use Rattle.rules.proofs.StepsOk.{function_only}

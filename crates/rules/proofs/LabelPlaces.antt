@@ -1,7 +1,5 @@
 -- A right stream's labels, targets and loops, by the places of its words. Assumes nothing.
 use mathlib.Core.Path.{◌≡◌, refl, sym, ap, subst, ◌∙◌}
-use mathlib.Core.Logic.{◌⊎◌, inl, inr}
-use mathlib.Core.Bool.{Bool, true, false}
 use mathlib.Core.List.{List, [], ◌∷◌, ◌++◌, reverse_aux, append-nil}
 use Prim.Native.Nat.{ℕ, zero, suc, ◌+◌, ◌≤◌, ◌<◌}
 use native.Mathlib.Omega.{arith}
@@ -12,51 +10,14 @@ use lib.Dec.{T}
 use Rattle.tables.specs.Forest.{Forest}
 use Rattle.opcode.specs.Kinds.{is_target}
 use Rattle.pool.specs.Value.{Const}
-use Rattle.rules.specs.Marker.{
-  Forward,
-  Jump,
-  PopJumpIfFalse,
-  JumpIfTrueOrPop,
-  JumpIfFalseOrPop,
-  JumpPopIfNull,
-  RegisterHandler,
-  Way,
-  Break,
-  Continue,
-  Op,
-  Label,
-  To,
-  Back,
-  Leave,
-  Load,
-  Do,
-  Mark,
-  mark,
-}
-use Rattle.rules.specs.Run.{Loop, loop}
+use Rattle.rules.specs.Marker.{Forward, Jump, PopJumpIfFalse, JumpIfTrueOrPop, JumpIfFalseOrPop, JumpPopIfNull, RegisterHandler, Break, Continue, Op, Label, To, Back, Leave, Load, Do, Mark, mark}
+use Rattle.rules.specs.Run.{Loop}
 use Rattle.rules.specs.Out.{code_word, operand_word, forward_number}
-use Rattle.rules.specs.Around.{Around}
-use Rattle.rules.specs.Demand.{code, operand, Places, Stands, Labels, Opened, first, next, continue_of, break_of, no_loop, record_of}
-use Rattle.rules.proofs.Count.{one, one_same, one_other, placed, placed_back, inside, inside_at, inside_above}
-use Rattle.rules.proofs.Placing.{kept_times}
+use Rattle.rules.specs.Demand.{code, operand, Places, Stands, Labels, record_of}
+use Rattle.rules.proofs.Count.{one_same, one_other, placed, placed_back, inside_at, inside_above}
 use Rattle.rules.proofs.Targets.{Target, Targets}
-use Rattle.rules.proofs.Ties.{Tie, Ties}
 use Rattle.rules.proofs.Right.{Right}
-use Rattle.rules.proofs.OnWords.{
-  op_of,
-  blank,
-  words_of,
-  code_at,
-  operand_at,
-  is_label,
-  Targeting,
-  forward,
-  backward,
-  leaving,
-  is_targeting,
-  is_break,
-  is_continue,
-}
+use Rattle.rules.proofs.OnWords.{op_of, blank, words_of, code_at, operand_at, is_label, Targeting, forward, backward, leaving, is_targeting}
 
 -- marker j of xs places label l
 pub record PlacesMark (l : ℕ) (xs : List Mark) (j : ℕ) : Type 0 where

@@ -1,25 +1,22 @@
 -- A right stream's Breaks, Continues and loops, by the places of its words. Assumes nothing.
-use mathlib.Core.Path.{◌≡◌, refl, sym, ap, subst, ◌∙◌}
+use mathlib.Core.Path.{◌≡◌, sym, ap, subst, ◌∙◌}
 use mathlib.Core.Logic.{◌⊎◌, inl, inr}
-use mathlib.Core.Bool.{Bool, true, false}
-use mathlib.Core.List.{List, [], ◌∷◌, ◌++◌, reverse_aux, reverse_aux-reverse_aux-nil}
-use Prim.Native.Nat.{ℕ, zero, suc, ◌+◌, ◌≤◌, ◌<◌}
+use mathlib.Core.List.{List, [], ◌∷◌, reverse_aux}
+use Prim.Native.Nat.{ℕ, zero, suc, ◌≤◌, ◌<◌}
 use native.Mathlib.Omega.{arith}
 use native.Mathlib.Decide.{dec_le}
 use lib.ListN.{length, get_or}
-use Rattle.tables.specs.Record.{words}
-use Rattle.tables.specs.Forest.{Forest, children}
+use Rattle.tables.specs.Forest.{Forest}
 use Rattle.pool.specs.Value.{Const}
-use Rattle.rules.specs.Marker.{Way, Break, Continue, Op, Label, Leave, Mark, mark}
-use Rattle.rules.specs.Run.{Lookup, Loop, loop, Stream}
+use Rattle.rules.specs.Marker.{Break, Continue, Op, Leave, Mark, mark}
+use Rattle.rules.specs.Run.{Loop, loop}
 use Rattle.rules.specs.Out.{operand_word}
 use Rattle.rules.specs.Around.{Around}
-use Rattle.rules.specs.Demand.{code, operand, Loops, Opened, first, next, continue_of, break_of, no_loop, record_of, writer}
-use Rattle.rules.proofs.Count.{one, one_same, inside, inside_at, inside_above}
+use Rattle.rules.specs.Demand.{code, operand, Opened, first, next, continue_of, break_of, no_loop, record_of}
+use Rattle.rules.proofs.Count.{one_same, inside_at, inside_above}
 use Rattle.rules.proofs.Placing.{kept_times, kept_back}
 use Rattle.rules.proofs.Ties.{Tie, Ties}
 use Rattle.rules.proofs.Right.{Right}
-use Rattle.rules.proofs.Segment.{Seg, finished}
 use Rattle.rules.proofs.OnWords.{op_of, blank, words_of, code_at, operand_at, is_break, is_continue}
 
 ties_at : (S : ℕ → ℕ → Type 0) (K : ℕ → ℕ → ℕ → Type 0) (xs : List Mark) (i : ℕ) → Ties S K xs → i < length xs → Tie S K (get_or xs i blank)

@@ -1,7 +1,7 @@
 -- Every local, global and upvalue that a stream names lies inside its table. Assumes nothing.
-use mathlib.Core.Path.{◌≡◌, refl, sym, ap, subst, ◌∙◌}
-use mathlib.Core.Logic.{◌⊎◌, inl, inr}
-use mathlib.Core.Bool.{Bool, true, false, cond, ◌&&◌}
+use mathlib.Core.Path.{◌≡◌, refl, sym, subst}
+use mathlib.Core.Logic.{inl, inr}
+use mathlib.Core.Bool.{Bool, true, false, cond}
 use mathlib.Core.List.{List, [], ◌∷◌, ◌++◌, reverse_aux}
 use Prim.Native.Nat.{ℕ, zero, suc, ◌+◌, ◌≤◌, ◌<◌}
 use native.Mathlib.Omega.{arith}
@@ -83,34 +83,10 @@ use Rattle.rules.specs.Marker.{
   Mark,
   mark,
 }
-use Rattle.rules.specs.Step.{
-  Role,
-  Expr,
-  Keep,
-  Use,
-  Get,
-  Set,
-  Step,
-  push_op,
-  push_const,
-  get_label,
-  place,
-  jump,
-  jump_back,
-  visit,
-  begin_loop,
-  end_loop,
-  exit,
-  check_return,
-  access,
-  refuse,
-  inner,
-  expr,
-  load,
-}
+use Rattle.rules.specs.Step.{Role, Use, Get, Set, Step, push_op, push_const, get_label, place, jump, jump_back, visit, begin_loop, end_loop, exit, check_return, access, refuse, inner, expr, load}
 use Rattle.rules.specs.Arms.{stream_steps}
 use Rattle.rules.specs.Kinds.{steps}
-use Rattle.rules.specs.Run.{Loop, loop, drop1, label_of, Spot, here, nowhere, spot_at, look}
+use Rattle.rules.specs.Run.{Loop, loop, drop1, Spot, here, nowhere, spot_at, look}
 use Rattle.rules.specs.Out.{consts, code_word, operand_word}
 use Rattle.rules.specs.Demand.{code, operand, WithinFound, Captured, no_upvalue}
 use Rattle.rules.proofs.Segment.{Seg, no_seg, sought_marks, leaving, seg_code, Segs, no_segs, child_seg, seg_alg, segs_of, seg_of, body_seg}
@@ -118,7 +94,7 @@ use Rattle.rules.proofs.StepsOk.{function_only}
 use Rattle.rules.proofs.Tame.{no_name, no_function, pure}
 use Rattle.rules.proofs.Pure.{steps_pure}
 use Rattle.rules.proofs.OnWords.{op_of, blank, words_of, code_at, operand_at}
-use Rattle.rules.proofs.ConstPlaces.{LoadsAt, load_inside as const-inside}
+use Rattle.rules.proofs.ConstPlaces.{load_inside as const-inside}
 
 -- the instruction's operand is inside the table of names that it names
 abbrev pub NamedCode : Names → Code → ℕ → Type 0

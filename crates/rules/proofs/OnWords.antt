@@ -1,14 +1,14 @@
 -- Markers and their words: what stands at a place of the words is what stands at that place of the stream. Assumes nothing.
 use mathlib.Core.Path.{◌≡◌, refl, sym, ap, subst, ◌∙◌}
-use mathlib.Core.Bool.{Bool, true, false, not, ◌&&◌}
+use mathlib.Core.Bool.{Bool, not, ◌&&◌}
 use mathlib.Core.List.{List, [], ◌∷◌, ◌++◌, reverse_aux}
-use Prim.Native.Nat.{ℕ, zero, suc, ◌+◌, ◌*◌, ◌≤◌, ◌<◌}
+use Prim.Native.Nat.{ℕ, zero, suc, ◌+◌, ◌*◌, ◌<◌}
 use native.Mathlib.Omega.{arith}
 use lib.ListN.{length, get_or}
 use lib.Dec.{T, eqb, eqb_refl, T_not}
 use Rattle.tables.proofs.ForestLaws.{and_l, and_r}
-use Rattle.opcode.specs.Kinds.{is_target, operand_kind}
-use Rattle.pool.specs.Value.{Value, Const}
+use Rattle.opcode.specs.Kinds.{is_target}
+use Rattle.pool.specs.Value.{Const}
 use Rattle.rules.specs.Marker.{
   Forward,
   Jump,

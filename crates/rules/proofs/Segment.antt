@@ -1,38 +1,13 @@
 -- What a visit writes when nothing cuts it short, read off its steps alone: its segment. Definitions.
-use mathlib.Core.Bool.{Bool, true, false, cond}
 use mathlib.Core.List.{List, [], ◌∷◌, ◌++◌, reverse_aux}
-use Prim.Native.Nat.{ℕ, zero, suc, ◌+◌}
+use Prim.Native.Nat.{ℕ, suc, ◌+◌}
 use lib.ListN.{get_or}
 use Rattle.tables.specs.Record.{Words}
 use Rattle.tables.specs.Forest.{Forest, none, tree, fold, fold1, own_tree}
 use Rattle.pool.specs.Names.{Access, local, global, upvalue, missing}
 use Rattle.rules.specs.declared.StackCode.{StackCode}
-use Rattle.rules.specs.Marker.{Way, LoadUpvalue, Op, Label, To, Back, Leave, Load, Do, Mark, mark}
-use Rattle.rules.specs.Step.{
-  Role,
-  Keep,
-  pass,
-  keep,
-  Use,
-  Get,
-  Set,
-  ChildPath,
-  Step,
-  push_op,
-  push_const,
-  get_label,
-  place,
-  jump,
-  jump_back,
-  visit,
-  begin_loop,
-  end_loop,
-  exit,
-  check_return,
-  access,
-  refuse,
-  inner,
-}
+use Rattle.rules.specs.Marker.{Way, LoadUpvalue, Label, To, Back, Leave, Load, Do, Mark, mark}
+use Rattle.rules.specs.Step.{Role, Use, Step, push_op, push_const, get_label, place, jump, jump_back, visit, begin_loop, end_loop, exit, check_return, access, refuse, inner}
 use Rattle.rules.specs.Arms.{stream_steps}
 use Rattle.rules.specs.Kinds.{steps}
 use Rattle.rules.specs.Run.{Lookup, Loop, loop, label_of, drop1, Stream, number_of, spot_at, local_code, global_code}

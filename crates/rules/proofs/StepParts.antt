@@ -1,80 +1,17 @@
 -- The parts of variable length pass the test where the steps that follow them do. Assumes nothing.
-use mathlib.Core.Path.{◌≡◌, refl, sym, ap, subst, ◌∙◌}
+use mathlib.Core.Path.{◌≡◌, refl, sym, ap, subst}
 use mathlib.Core.Bool.{Bool, true, false, cond, ◌&&◌, ◌||◌}
 use mathlib.Core.List.{List, [], ◌∷◌, ◌++◌}
-use Prim.Native.Nat.{ℕ, zero, suc, ◌+◌, ◌-◌, ◌%◌, ◌≤◌, ◌<◌}
+use Prim.Native.Nat.{ℕ, zero, suc, ◌+◌, ◌≤◌, ◌<◌}
 use native.Mathlib.Omega.{arith}
 use native.Mathlib.Decide.{ℕ_discrete}
-use lib.Dec.{T, eqb, eqb→eq, eqb_refl, ltb, leb, ltb→lt}
-use Rattle.tables.specs.Record.{Words, is_kind, is_loop, is_do}
+use lib.Dec.{T, eqb, eqb→eq, eqb_refl, ltb, ltb→lt}
+use Rattle.tables.specs.Record.{Words, is_kind}
 use Rattle.tables.specs.Forest.{Nodes, bare, node}
-use Rattle.tables.proofs.ForestLaws.{and_l}
 use Rattle.pool.specs.Value.{lit}
-use Rattle.rules.specs.Marker.{Code, Pop, Copy, Swap, Eq, Jump, PopJumpIfFalse, JumpPopIfNull, LoadConst, Call, ReturnCall}
-use Rattle.rules.specs.Step.{
-  Role,
-  Expr,
-  Callee,
-  Tail,
-  Target,
-  Before,
-  After,
-  pass,
-  keep,
-  Set,
-  Step,
-  push_op,
-  push_const,
-  get_label,
-  place,
-  jump,
-  jump_back,
-  visit,
-  begin_loop,
-  end_loop,
-  exit,
-  check_return,
-  access,
-  refuse,
-  inner,
-  expr,
-  null,
-  visits,
-  visits_down,
-  stores_down,
-  get_labels,
-  push_ops,
-  width,
-}
-use Rattle.rules.specs.Arms.{
-  block_from,
-  block_steps,
-  no_opcode,
-  property,
-  safe_jump,
-  is_method,
-  method_steps,
-  member_steps,
-  arguments,
-  handlers,
-  registers,
-  bodies,
-  call_with,
-  call_steps,
-  items_stored,
-  for_targets,
-  is_tail,
-  simple_import,
-  import_steps,
-  binary_steps,
-  for_steps,
-  unpacked,
-  function_steps,
-  stream_steps,
-  target_steps,
-  before_steps,
-  after_steps,
-}
+use Rattle.rules.specs.Marker.{Code, Pop, Swap, Eq, Jump, PopJumpIfFalse, JumpPopIfNull, LoadConst}
+use Rattle.rules.specs.Step.{Role, Expr, Set, Step, push_op, push_const, get_label, place, jump, access, null, visits, visits_down, stores_down, get_labels, push_ops, width}
+use Rattle.rules.specs.Arms.{block_from, block_steps, property, arguments, handlers, registers, bodies, call_with, call_steps, unpacked}
 use Rattle.rules.specs.Patterns.{
   Part,
   item,
@@ -101,8 +38,7 @@ use Rattle.rules.specs.Patterns.{
   match_cases,
   match_steps,
 }
-use Rattle.rules.specs.Kinds.{Kind, kinds, steps_of, expr_steps, steps}
-use Rattle.rules.proofs.Check.{has, del, Inside, outside, within, chk, ok, begun}
+use Rattle.rules.proofs.Check.{has, del, outside, chk, ok, begun}
 
 pub both : (a b : Bool) → T a → T b → T (a && b)
 both true b p q = q

@@ -1,132 +1,21 @@
 -- Every kind's steps pass the test, in every role. Assumes nothing.
 use mathlib.Core.Path.{◌≡◌, refl, sym, ap, subst, ◌∙◌}
 use mathlib.Core.Bool.{Bool, true, false, cond, ◌&&◌, ◌||◌}
-use mathlib.Core.List.{List, [], ◌∷◌, ◌++◌}
-use Prim.Native.Nat.{ℕ, zero, suc, ◌+◌, ◌-◌, ◌/◌, ◌%◌, ◌≤◌, ◌<◌}
-use native.Mathlib.Omega.{arith}
-use native.Mathlib.Decide.{ℕ_discrete}
-use lib.Dec.{T, eqb, eqb→eq, eqb_refl, ltb, leb, ltb→lt}
+use mathlib.Core.List.{List, [], ◌∷◌}
+use Prim.Native.Nat.{ℕ, zero, suc, ◌+◌, ◌-◌, ◌/◌, ◌%◌}
+use lib.Dec.{T, eqb, eqb→eq, ltb, leb}
 use Rattle.tables.specs.Record.{Words, is_kind, is_loop, is_do}
-use Rattle.tables.specs.Forest.{Nodes, bare, node}
+use Rattle.tables.specs.Forest.{Nodes}
 use Rattle.tables.proofs.ForestLaws.{and_l}
-use Rattle.pool.specs.Value.{lit}
 use Rattle.rules.specs.declared.StackCode.{StackCode}
 use Rattle.rules.specs.declared.StackCode.TheVariants.{Code1, Code2}
-use Rattle.rules.specs.Marker.{BuildTable, BuildList, Code, Pop, Copy, Swap, Eq, Jump, PopJumpIfFalse, JumpPopIfNull, LoadConst, Call, ReturnCall}
-use Rattle.rules.specs.Step.{
-  Role,
-  Expr,
-  Callee,
-  Tail,
-  Target,
-  Before,
-  After,
-  pass,
-  keep,
-  Set,
-  Step,
-  push_op,
-  push_const,
-  get_label,
-  place,
-  jump,
-  jump_back,
-  visit,
-  begin_loop,
-  end_loop,
-  exit,
-  check_return,
-  access,
-  refuse,
-  inner,
-  expr,
-  null,
-  visits,
-  visits_down,
-  stores_down,
-  get_labels,
-  push_ops,
-  width,
-}
-use Rattle.rules.specs.Arms.{
-  block_from,
-  block_steps,
-  no_opcode,
-  is_short_lem,
-  property,
-  safe_jump,
-  is_method,
-  method_steps,
-  unlabelled,
-  member_steps,
-  arguments,
-  handlers,
-  registers,
-  bodies,
-  call_with,
-  call_steps,
-  items_stored,
-  for_targets,
-  is_tail,
-  return_steps,
-  simple_import,
-  import_steps,
-  assign_op_steps,
-  assign_unpack_steps,
-  assign_multi_steps,
-  binary_steps,
-  for_steps,
-  unpacked,
-  function_steps,
-  stream_steps,
-  target_steps,
-  before_steps,
-  after_steps,
-}
-use Rattle.rules.specs.Patterns.{
-  Part,
-  item,
-  key,
-  value,
-  parts,
-  next_part,
-  is_pattern_part,
-  is_nested,
-  grown,
-  taking,
-  labels_after,
-  lead,
-  length_test,
-  table_test,
-  pattern_steps,
-  inside_steps,
-  cleanup,
-  pattern_labels,
-  test_steps,
-  case_tests,
-  case_labels,
-  cases_tests,
-  match_cases,
-  match_steps,
-}
-use Rattle.rules.specs.Kinds.{Kind, kinds, steps_of, expr_steps, steps}
-use Rattle.rules.proofs.Check.{has, del, Inside, outside, within, chk, ok, begun}
+use Rattle.rules.specs.Marker.{BuildTable, BuildList, Code, Pop, Copy, Call, ReturnCall}
+use Rattle.rules.specs.Step.{Role, Expr, Callee, Tail, Target, Before, After, Set, Step, push_op, place, jump_back, end_loop, access, expr, null, visits, visits_down, width}
+use Rattle.rules.specs.Arms.{no_opcode, is_short_lem, is_method, method_steps, unlabelled, member_steps, call_steps, items_stored, is_tail, return_steps, simple_import, import_steps, assign_op_steps, assign_unpack_steps, assign_multi_steps, binary_steps, for_steps, unpacked, function_steps, stream_steps, target_steps, before_steps, after_steps}
+use Rattle.rules.specs.Kinds.{Kind, kinds, steps_of, steps}
+use Rattle.rules.proofs.Check.{Inside, within, chk, ok}
 use Rattle.rules.proofs.EachKind.{EachKind, no_more, ◌also◌}
-use Rattle.rules.proofs.StepParts.{
-  both,
-  either_way,
-  Pass,
-  On,
-  visits_ok,
-  visits_down_ok,
-  stores_down_ok,
-  says_ok,
-  unpacked_ok,
-  property_ok,
-  blocks_ok,
-  call_ok,
-  matches_ok,
-}
+use Rattle.rules.proofs.StepParts.{either_way, Pass, On, visits_ok, visits_down_ok, stores_down_ok, says_ok, unpacked_ok, property_ok, blocks_ok, call_ok, matches_ok}
 
 either : (b : Bool) (x y : List Step) → Pass false x → Pass false y → Pass false (cond b x y)
 either b x y p q = either_way (Pass false) b x y p q

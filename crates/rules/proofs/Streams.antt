@@ -2,7 +2,7 @@
 use mathlib.Core.Path.{◌≡◌, refl, sym, ap, subst, ◌∙◌}
 use mathlib.Core.Bool.{Bool, true, false, cond}
 use mathlib.Core.List.{List, [], ◌∷◌, ◌++◌, reverse_aux}
-use Prim.Native.Nat.{ℕ, zero, suc, ◌+◌, ◌≤◌, ◌<◌}
+use Prim.Native.Nat.{ℕ, zero, suc, ◌<◌}
 use native.Mathlib.Omega.{arith}
 use native.Mathlib.Decide.{ℕ_discrete}
 use lib.Dec.{T}
@@ -34,13 +34,13 @@ use Rattle.rules.specs.Step.{
   load,
 }
 use Rattle.rules.specs.Kinds.{steps}
-use Rattle.rules.specs.Run.{Lookup, Stream, side, stream, run}
+use Rattle.rules.specs.Run.{Lookup, Stream, side, run}
 use Rattle.rules.specs.Out.{stream_of_lem}
 use Rattle.rules.proofs.Segment.{Seg, no_seg, finished, seg_made, child_seg, segs_of, seg_of, body_seg}
 use Rattle.rules.proofs.StepsOk.{function_only}
 use Rattle.rules.proofs.Tame.{no_name, no_function, pure}
 use Rattle.rules.proofs.Pure.{none_pure, steps_pure}
-use Rattle.rules.proofs.Count.{inside, inside_at}
+use Rattle.rules.proofs.Count.{inside_at}
 use Rattle.rules.proofs.Writes.{Clean}
 use Rattle.rules.proofs.Visits.{body_of, stream_at, run_writes}
 use Rattle.rules.proofs.Numbers.{run_numbered, Every, stream_found}

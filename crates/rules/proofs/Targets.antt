@@ -2,7 +2,7 @@
 use mathlib.Core.Path.{◌≡◌, refl, sym, ap, subst, ◌∙◌}
 use mathlib.Core.Bool.{Bool, true, false, ◌&&◌, ◌||◌}
 use mathlib.Core.List.{List, [], ◌∷◌, ◌++◌, reverse_aux, append_assoc}
-use Prim.Native.Nat.{ℕ, zero, suc, ◌+◌, ◌≤◌, ◌<◌}
+use Prim.Native.Nat.{ℕ, suc, ◌+◌, ◌≤◌}
 use native.Mathlib.Omega.{arith}
 use lib.ListN.{length, get_or, get_or-append}
 use lib.Dec.{T, eqb, eqb→eq}
@@ -10,29 +10,10 @@ use Rattle.tables.specs.Record.{Words}
 use Rattle.tables.specs.Forest.{Forest, none, tree}
 use Rattle.tables.proofs.ForestLaws.{and_l, and_r}
 use Rattle.pool.specs.Names.{Access, local, global, upvalue, missing}
-use Rattle.rules.specs.Marker.{Way, Break, Continue, Op, Label, To, Back, Leave, Load, Do, Mark, mark}
-use Rattle.rules.specs.Step.{
-  Role,
-  Keep,
-  Use,
-  Step,
-  push_op,
-  push_const,
-  get_label,
-  place,
-  jump,
-  jump_back,
-  visit,
-  begin_loop,
-  end_loop,
-  exit,
-  check_return,
-  access,
-  refuse,
-  inner,
-}
+use Rattle.rules.specs.Marker.{Break, Continue, Label, To, Back, Leave, Load, Do, Mark, mark}
+use Rattle.rules.specs.Step.{Role, Use, Step, push_op, push_const, get_label, place, jump, jump_back, visit, begin_loop, end_loop, exit, check_return, access, refuse, inner}
 use Rattle.rules.specs.Run.{Lookup, Loop, loop, number_of, spot_at}
-use Rattle.rules.proofs.Segment.{Seg, sought_marks, leaving, seg_code}
+use Rattle.rules.proofs.Segment.{Seg, sought_marks, seg_code}
 use Rattle.rules.proofs.Check.{has, del, Inside, outside, within, chk, ok, begun, sound_at, settled, stack}
 use Rattle.rules.proofs.Count.{one_same, placed, placed_append, placed_back, Below, below_suc, below_has, below_del, pending_del, length_grown}
 use Rattle.rules.proofs.Placing.{Placed, placed_run}

@@ -1,35 +1,15 @@
 -- Each Break and Continue of a segment names the label that the loop around its record keeps. Assumes nothing.
-use mathlib.Core.Path.{◌≡◌, refl, sym, ap, subst, ◌∙◌}
-use mathlib.Core.Bool.{Bool, true, false, cond, ◌&&◌, ◌||◌}
+use mathlib.Core.Path.{◌≡◌, refl}
+use mathlib.Core.Bool.{Bool, true, false, cond, ◌&&◌}
 use mathlib.Core.List.{List, [], ◌∷◌, ◌++◌}
-use Prim.Native.Nat.{ℕ, zero, suc, ◌+◌}
-use lib.ListN.{get_or}
+use Prim.Native.Nat.{ℕ, suc, ◌+◌}
 use lib.Dec.{T}
-use Rattle.tables.specs.Record.{Words, is_loop}
+use Rattle.tables.specs.Record.{Words}
 use Rattle.tables.specs.Forest.{Forest, none, tree}
 use Rattle.tables.proofs.ForestLaws.{and_l, and_r}
 use Rattle.pool.specs.Names.{Access, local, global, upvalue, missing}
-use Rattle.rules.specs.Marker.{Way, Break, Continue, Op, Label, To, Back, Leave, Load, Do, Mark, mark}
-use Rattle.rules.specs.Step.{
-  Role,
-  Keep,
-  Use,
-  Step,
-  push_op,
-  push_const,
-  get_label,
-  place,
-  jump,
-  jump_back,
-  visit,
-  begin_loop,
-  end_loop,
-  exit,
-  check_return,
-  access,
-  refuse,
-  inner,
-}
+use Rattle.rules.specs.Marker.{Break, Continue, Label, To, Back, Leave, Load, Do, Mark, mark}
+use Rattle.rules.specs.Step.{Role, Use, Step, push_op, push_const, get_label, place, jump, jump_back, visit, begin_loop, end_loop, exit, check_return, access, refuse, inner}
 use Rattle.rules.specs.Run.{Lookup, Loop, loop, spot_at}
 use Rattle.rules.specs.Around.{inward, Around, here, below, beside}
 use Rattle.rules.specs.Demand.{Opened, first, next}

@@ -6,7 +6,6 @@ use Prim.Native.Nat.{ℕ, zero, suc, ◌+◌}
 use lib.ListN.{length}
 use Rattle.tables.specs.Record.{words}
 use Rattle.tables.specs.Forest.{guarded, first, next, grow, forest, children, root, levels}
-use Rattle.rules.specs.declared.StackCode.{StackCode}
 use Rattle.rules.specs.declared.StackCode.TheVariants.{Code1}
 use Rattle.rules.specs.Kinds.{steps}
 use Rattle.rules.specs.Run.{look, side, emit, bump, halt, begin, finish, outward, barred, kept, nested, exec, stream, function_run, nothing, run}

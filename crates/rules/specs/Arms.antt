@@ -1,5 +1,5 @@
 -- The steps of each kind of record but Match, to be held beside `visit_expr` arm by arm. Definitions only.
-use Rattle.std.specs.Prelude.{Bool, true, false, cond, ◌&&◌, ◌||◌, List, [], ◌∷◌, ℕ, zero, suc, ◌+◌, ◌-◌, ◌/◌, ◌%◌, get_or, ltb, eqb}
+use Rattle.std.specs.Prelude.{Bool, false, cond, ◌&&◌, ◌||◌, List, [], ◌∷◌, ℕ, zero, suc, ◌+◌, ◌-◌, ◌/◌, ◌%◌, get_or, ltb, eqb}
 use Rattle.tables.specs.Record.{Words, is_do, is_kind}
 use Rattle.tables.specs.Forest.{Nodes, bare, node}
 use Rattle.tables.specs.declared.refusal.RunRule.TheVariants.{Operator, Lengths, Path}

@@ -1,7 +1,7 @@
 -- Labels counted from the tree alone. Document 01: "Labels counted: And, Or, Member, Return 1; If, Loop, While 2; For 3; Call 1 + Handlers if it has any;
 -- Match 1 + cases + for each pattern 1 + the most Table and List patterns on one path down it. Nested functions count for themselves." Document 02, job 11:
 -- "Label counts .. are given for both" codes. Definitions only.
-use Rattle.std.specs.Prelude.{Bool, cond, ◌||◌, List, [], ◌∷◌, ℕ, zero, suc, ◌+◌, max, eqb}
+use Rattle.std.specs.Prelude.{cond, ◌||◌, [], ◌∷◌, ℕ, zero, suc, ◌+◌, max, eqb}
 use Rattle.tables.specs.Record.{Words, is_kind, is_pattern}
 use Rattle.tables.specs.Forest.{Nodes, bare, node}
 use Rattle.tables.specs.Details.{of_kind, row}

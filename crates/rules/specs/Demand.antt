@@ -1,6 +1,6 @@
 -- Demand 3 of document 01, on the words written for a function: "the labels run from 0 with no gap, as many as 01 counts from the tree alone and as its line
 -- says, each placed exactly once in its stream; every target is one of them .." and what follows. Definitions only.
-use Rattle.std.specs.Prelude.{◌≡◌, ◌⊎◌, Bool, false, ℕ, zero, suc, ◌+◌, ◌*◌, ◌≤◌, ◌<◌, length, get_or, T, eqb}
+use Rattle.std.specs.Prelude.{◌≡◌, ◌⊎◌, false, ℕ, suc, ◌+◌, ◌*◌, ◌≤◌, ◌<◌, length, get_or, T, eqb}
 use mathlib.Core.List.{List, [], ◌∷◌, reverse_aux}
 use Rattle.opcode.specs.Kinds.{is_target, operand_kind}
 use Rattle.opcode.specs.declared.opcode.OperandKind.{OperandKind}
@@ -8,10 +8,10 @@ use Rattle.opcode.specs.declared.opcode.OperandKind.TheVariants as kind
 use Rattle.opcode.specs.declared.tables.KindLookup.{KindLookup}
 use Rattle.opcode.specs.declared.tables.KindLookup.TheVariants as lookup
 use Rattle.tables.specs.Forest.{children, own_tree}
-use Rattle.pool.specs.Value.{Value, plain, effect, Const, same, start}
+use Rattle.pool.specs.Value.{Value, plain, effect, Const, same}
 use Rattle.pool.specs.Names.{Semantic, Names, Upvalue, names, parent}
 use Rattle.rules.specs.declared.StackCode.{StackCode}
-use Rattle.rules.specs.Marker.{Mark, mark, Op, Label}
+use Rattle.rules.specs.Marker.{Mark, mark, Label}
 use Rattle.rules.specs.Run.{Loop, loop, Stream, Side}
 use Rattle.rules.specs.Out.{consts, marker_words, stream_of_lem}
 use Rattle.rules.specs.Around.{Around}

@@ -1,5 +1,5 @@
 -- Which steps a record of each kind has. Definitions only.
-use Rattle.std.specs.Prelude.{Bool, cond, List, [], ◌∷◌, ℕ, eqb}
+use Rattle.std.specs.Prelude.{cond, List, [], ◌∷◌, ℕ, eqb}
 use Rattle.tables.specs.Record.{Words, is_kind}
 use Rattle.tables.specs.Forest.{Nodes}
 use Rattle.rules.specs.declared.StackCode.{StackCode}

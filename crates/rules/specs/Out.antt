@@ -1,6 +1,6 @@
 -- What a run writes, in words: document 01's paragraph "Out, function by function but for errors". Definitions only.
-use Rattle.std.specs.Prelude.{Bool, true, false, cond, List, [], ◌∷◌, ◌++◌, ℕ, zero, suc, ◌+◌, max, length, eqb}
-use Rattle.tables.specs.Record.{Words, is_loop}
+use Rattle.std.specs.Prelude.{cond, List, [], ◌∷◌, ◌++◌, ℕ, zero, suc, max, length, eqb}
+use Rattle.tables.specs.Record.{is_loop}
 use Rattle.tables.specs.Forest.{Nodes, bare, node, own_tree, children}
 use Rattle.tables.specs.declared.refusal.RunRule.{RunRule}
 use Rattle.pool.specs.Value.{Value, plain, effect, Const, find, intern, start, kind_word, low_word, high_word}
@@ -71,7 +71,7 @@ use Rattle.rules.specs.Marker.{
   Mark,
   mark,
 }
-use Rattle.rules.specs.Run.{Error, error, Loop, Stream, Side, State, side, flow, look, run}
+use Rattle.rules.specs.Run.{Error, error, Stream, Side, side, flow, look, run}
 use Rattle.rules.specs.declared.Flow.{Flow}
 use Rattle.rules.specs.declared.Flow.TheVariants.{Go, Cut, Refused}
 

@@ -1,30 +1,10 @@
 -- The run: steps on a state. Nothing is done unless the run goes on. Definitions only.
 use Rattle.std.specs.Prelude.{Bool, true, false, cond, List, [], ◌∷◌, ◌++◌, ℕ, zero, suc, get_or, eqb}
 use Rattle.tables.specs.Record.{Words, words, is_do, is_function, is_ident}
-use Rattle.tables.specs.Forest.{Forest, none, tree, forest, children, fold, own_tree}
-use Rattle.tables.specs.declared.refusal.RunRule.{RunRule}
+use Rattle.tables.specs.Forest.{Forest, none, tree, children, fold, own_tree}
 use Rattle.tables.specs.declared.refusal.RunRule.TheVariants.{Reference, Skipped}
 use Rattle.pool.specs.Names.{Semantic, Access, local, global, upvalue, missing, load as load-name, store as store-name}
-use Rattle.rules.specs.Marker.{
-  Way,
-  Break,
-  Continue,
-  Code,
-  LoadLocal,
-  LoadGlobal,
-  LoadUpvalue,
-  StoreLocal,
-  StoreGlobal,
-  Op,
-  Label,
-  To,
-  Back,
-  Leave,
-  Load,
-  Do,
-  Mark,
-  mark,
-}
+use Rattle.rules.specs.Marker.{Way, Break, Continue, Code, LoadLocal, LoadGlobal, LoadUpvalue, StoreLocal, StoreGlobal, Label, To, Back, Leave, Load, Do, Mark, mark}
 use Rattle.rules.specs.Step.{
   Role,
   Keep,

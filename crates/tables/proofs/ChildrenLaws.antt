@@ -6,7 +6,7 @@ use Prim.Native.Nat.{ℕ, zero, suc, ◌+◌, ◌≤◌, ◌<◌}
 use native.Mathlib.Omega.{arith}
 use lib.ListN.{length, get_or, drop}
 use lib.Dec.{eqb}
-use borrow.Author.Tests.{eq-eqb, ne_eqb, eqb-true, eqb-false, not-false}
+use borrow.Author.Tests.{ne_eqb, eqb-true, eqb-false, not-false}
 use Rattle.tables.specs.declared.children.Class.{Class}
 use Rattle.tables.specs.declared.children.Class.TheVariants.{Expr, Pattern, Ident, Block, Function, Params, Handler, Case, Left, Item}
 use Rattle.tables.specs.declared.refusal.Broken.TheVariants.{Nowhere}
@@ -15,7 +15,7 @@ use Rattle.tables.specs.Place.{broken}
 use Rattle.tables.specs.Forest.{Forest, none, tree, own_tree, children, breadth}
 use Rattle.tables.specs.Details.{of_kind}
 use Rattle.tables.specs.Children.{Want, times, any, maybe, pairs, one, belongs, leads, past, past_one, past_pairs, fits, suits, property, member, left_property, imported}
-use Rattle.tables.specs.Children.{bracket, values, controls, stores, parts, words_of, node_words, rooted, right_children, wrong_children}
+use Rattle.tables.specs.Children.{values, controls, stores, parts, words_of, node_words, rooted, right_children, wrong_children}
 use Rattle.tables.proofs.PlaceLaws.{holds}
 use Rattle.tables.proofs.ServeLaws.{clash, bracket_on, bracket_off}
 

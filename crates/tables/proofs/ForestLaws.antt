@@ -1,13 +1,13 @@
 -- The forest of the records: how it unfolds, and induction over it. Assumes nothing.
-use mathlib.Core.Path.{◌≡◌, refl, sym, ap, ap₂, subst, ◌∙◌}
+use mathlib.Core.Path.{◌≡◌, refl, sym, ap₂, subst, ◌∙◌}
 use mathlib.Core.Bool.{Bool, true, false, cond, ◌&&◌}
-use mathlib.Core.List.{List, [], ◌∷◌}
+use mathlib.Core.List.{List}
 use mathlib.Core.Logic.{◌⊎◌, inl, inr}
 use Prim.Native.Nat.{ℕ, zero, suc, ◌+◌, ◌≤◌, ◌<◌}
 use native.Mathlib.Omega.{arith}
-use lib.ListN.{length, get_or}
+use lib.ListN.{get_or}
 use lib.Dec.{T, ltb, ltb→lt}
-use Rattle.tables.specs.Record.{Words, words, word, size}
+use Rattle.tables.specs.Record.{Words, words, size}
 use Rattle.tables.specs.Forest.{Forest, none, tree, guarded, link, first, next, grow, forest, children, fold, fold1}
 
 pub and_l : (a b : Bool) → T (a && b) → T a

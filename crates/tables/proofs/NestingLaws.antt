@@ -12,7 +12,7 @@ use borrow.Author.Tests.{lt-ltb, le-ltb, eq-eqb, ne_eqb, ltb-false}
 use Rattle.tables.specs.declared.refusal.Broken.TheVariants.{Nowhere}
 use Rattle.tables.specs.Record.{size}
 use Rattle.tables.specs.Forest.{Forest, none, tree, first, next, forest, root, levels}
-use Rattle.tables.specs.Naming.{one, Joined}
+use Rattle.tables.specs.Naming.{Joined}
 use Rattle.tables.specs.Nesting.{level_in, level, nesting}
 use Rattle.tables.specs.Scratch.{Handed}
 use Rattle.tables.proofs.ForestLaws.{grown}

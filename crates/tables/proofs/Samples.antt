@@ -7,7 +7,7 @@ use Rattle.tables.specs.Forest.{forest, grow, first, next, guarded}
 use Rattle.tables.specs.Place.{broken_from}
 use Rattle.tables.specs.Naming.{naming, named_by, one}
 use Rattle.tables.specs.Nesting.{level}
-use Rattle.tables.specs.Numbering.{visited, manner, numbering, parent}
+use Rattle.tables.specs.Numbering.{visited, manner, numbering}
 
 -- kind, detail, p, q, first, next; start and end are 0
 rec : ℕ → ℕ → ℕ → ℕ → ℕ → ℕ → List ℕ

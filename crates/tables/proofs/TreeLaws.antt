@@ -8,8 +8,8 @@ use native.Mathlib.Omega.{arith}
 use native.Mathlib.Decide.{ℕ_discrete}
 use lib.Dec.{T, ltb, lt→ltb}
 use Rattle.tables.specs.declared.refusal.Broken.TheVariants.{Nowhere}
-use Rattle.tables.specs.Record.{words, word, size}
-use Rattle.tables.specs.Forest.{Forest, none, tree, guarded, link, first, next, forest, children, root, count}
+use Rattle.tables.specs.Record.{word, size}
+use Rattle.tables.specs.Forest.{Forest, none, tree, guarded, first, next, forest, children, root, count}
 use Rattle.tables.specs.Naming.{one, named_by, naming, Lawful, Joined}
 use Rattle.tables.proofs.ForestLaws.{Onward, first_onward, next_onward, forest_absent, forest_record, grown}
 use Rattle.tables.proofs.NamingLaws.{one_same, one_other, one_hit, once}

@@ -1,6 +1,6 @@
 -- The records read as trees, once and for all. Document 01: "`first` is the first child, `next` the next sibling, 0 for absent, else greater than
 -- the record's own number." Definitions only.
-use Rattle.std.specs.Prelude.{Bool, true, false, cond, ◌&&◌, List, [], ◌∷◌, ℕ, zero, suc, ◌+◌, max, ltb}
+use Rattle.std.specs.Prelude.{cond, ◌&&◌, List, [], ◌∷◌, ℕ, zero, suc, ◌+◌, max, ltb}
 use Rattle.tables.specs.Record.{Words, word, words, size, is_function}
 
 -- records in sibling order: a record's number, its words, its children, its later siblings

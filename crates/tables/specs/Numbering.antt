@@ -5,7 +5,7 @@ use Rattle.tables.specs.declared.refusal.Broken.{Broken}
 use Rattle.tables.specs.declared.numbering.Manner.{Manner}
 use Rattle.tables.specs.declared.numbering.Manner.TheVariants.{Stored, RightFirst, RightThenBack}
 use Rattle.tables.specs.Record.{Words, word, words, size, absent, is_kind, is_function}
-use Rattle.tables.specs.Forest.{Forest, none, tree, first, root}
+use Rattle.tables.specs.Forest.{Forest, none, tree, root}
 use Rattle.tables.specs.Place.{broken}
 
 -- 34 Left: by row 6 the first p children of an assignment, and no others, are Lefts

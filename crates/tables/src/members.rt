@@ -26,8 +26,8 @@ fn twice(members: &[u32], start: usize, m: usize) -> bool
 
 // The same by the stamps of what stands before m, one more than the last place of each symbol; row 1 lets through no more than 1,024 of either.
 fn stamped_twice(members: &[u32], seen: &[u16; 1024], start: usize, symbol: usize, m: usize) -> bool
-    requires fact_1 { symbol ≡ symbol_at members.now m }
-    requires fact_2 { (m < 1024 → Stamped (symbol_at members.now) seen.now m) }
+    requires known { symbol ≡ symbol_at members.now m }
+    requires stamped { (m < 1024 → Stamped (symbol_at members.now) seen.now m) }
     ensures { result ≡ twice_of members.now start m }
 {
     if m < 1024 {

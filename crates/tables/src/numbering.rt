@@ -103,8 +103,8 @@ fn if_left(recs: &[u32], r: usize, x: u16) -> u16
 
 // The same in Lefts alone.
 fn left_tallied(recs: &[u32], all: &[u16; 4096]) -> [u16; 4096]
-    requires fact_1 { size_of recs.now ≤ 4096 }
-    requires fact_2 { Tallied tally recs.now all.now }
+    requires small { size_of recs.now ≤ 4096 }
+    requires tallied { Tallied tally recs.now all.now }
     ensures { Tallied tally_left recs.now result }
 {
     let mut a = scratch::words();
@@ -138,8 +138,8 @@ fn parents(recs: &[u32], n: usize) -> [u16; 4096]
 
 // How many functions are visited before record x, since its parent.
 fn offset(recs: &[u32], all: &[u16; 4096], left: &[u16; 4096], up: &[u16; 4096], x: usize) -> u16
-    requires fact_1 { size_of recs.now ≤ 4096 }
-    requires fact_2 { x < 4096 }
+    requires small { size_of recs.now ≤ 4096 }
+    requires inside { x < 4096 }
     ensures { result ≡ offset_of recs.now all.now left.now up.now x }
 {
     if x == 0 {
@@ -178,8 +178,8 @@ fn below(
     f: usize,
     v: u16,
 ) -> u16
-    requires fact_1 { size_of recs.now ≤ 4096 }
-    requires fact_2 { r < 4096 }
+    requires small { size_of recs.now ≤ 4096 }
+    requires inside { r < 4096 }
     ensures { 0 < f → result ≡ base_down recs.now all.now left.now up.now r v }
 {
     if f == 0 {
@@ -197,8 +197,8 @@ fn bases(
     left: &[u16; 4096],
     up: &[u16; 4096],
 ) -> [u16; 4096]
-    requires fact_1 { n ≤ 4096 }
-    requires fact_2 { size_of recs.now ≤ 4096 }
+    requires few { n ≤ 4096 }
+    requires small { size_of recs.now ≤ 4096 }
     ensures { n ≡ size_of recs.now → Joined recs.now
         → Handed (base_down recs.now all.now left.now up.now) recs.now 0 n result }
 {
@@ -225,8 +225,8 @@ fn caller(
     r: usize,
     v: u16,
 ) -> u16
-    requires fact_1 { size_of recs.now ≤ 4096 }
-    requires fact_2 { r < 4096 }
+    requires small { size_of recs.now ≤ 4096 }
+    requires inside { r < 4096 }
     ensures { result ≡ caller_down recs.now all.now left.now up.now base.now r v }
 {
     if ast::kind(recs, r) == 30 {
@@ -245,8 +245,8 @@ fn callers(
     up: &[u16; 4096],
     base: &[u16; 4096],
 ) -> [u16; 4096]
-    requires fact_1 { n ≤ 4096 }
-    requires fact_2 { size_of recs.now ≤ 4096 }
+    requires few { n ≤ 4096 }
+    requires small { size_of recs.now ≤ 4096 }
     ensures { n ≡ size_of recs.now → Joined recs.now
         → Handed (caller_down recs.now all.now left.now up.now base.now) recs.now 0 n result }
 {
@@ -286,8 +286,8 @@ fn is_wrong(
     r: usize,
     v: u16,
 ) -> bool
-    requires fact_1 { size_of recs.now ≤ 4096 }
-    requires fact_2 { r < 4096 }
+    requires small { size_of recs.now ≤ 4096 }
+    requires inside { r < 4096 }
     ensures { result ≡ wrong recs.now funs.now r
         (start_of recs.now all.now left.now up.now base.now r) v }
 {

@@ -98,9 +98,9 @@ fn in_chain(
     h: u32,
     s: usize,
 ) -> bool
-    requires fact_1 { s < 1024 }
-    requires fact_2 { h ≡ hash_at strings.now bytes.now s }
-    requires fact_3 { Chained (hash_at strings.now bytes.now) hashes.now heads.now next.now s }
+    requires inside { s < 1024 }
+    requires hashed { h ≡ hash_at strings.now bytes.now s }
+    requires chained { Chained (hash_at strings.now bytes.now) hashes.now heads.now next.now s }
     ensures { result ≡ equal_earlier strings.now bytes.now s }
 {
     let b = bucket(h);
@@ -125,8 +125,8 @@ fn string_bad(
     h: u32,
     s: usize,
 ) -> bool
-    requires fact_1 { h ≡ hash_at strings.now bytes.now s }
-    requires fact_2 { (s < 1024 → Chained (hash_at strings.now bytes.now) hashes.now heads.now next.now s) }
+    requires hashed { h ≡ hash_at strings.now bytes.now s }
+    requires chained { (s < 1024 → Chained (hash_at strings.now bytes.now) hashes.now heads.now next.now s) }
     ensures { result ≡ string_bad strings.now bytes.now s }
 {
     let offset = string_offset(strings, s) as usize;

@@ -1,15 +1,15 @@
 -- From a visitor's calls to the steps of its arm. Assumes nothing.
-use mathlib.Core.Path.{◌≡◌, refl, sym, ap, ap₂, ◌∙◌, subst, subst⁻¹}
+use mathlib.Core.Path.{◌≡◌, refl, sym, ap, ◌∙◌, subst}
 use mathlib.Core.Bool.{Bool, true, false, cond, ◌||◌}
 use mathlib.Core.Logic.{◌⊎◌, inl, inr}
 use mathlib.Core.List.{List, [], ◌∷◌}
-use Prim.Native.Nat.{ℕ, zero, suc, ◌-◌, ◌%◌, ◌≤◌, ◌<◌, min}
+use Prim.Native.Nat.{ℕ, ◌%◌, ◌≤◌, ◌<◌, min}
 use native.Mathlib.Omega.{arith}
 use lib.ListN.{get_or}
 use lib.Dec.{eqb, ltb}
-use borrow.Author.Tests.{eq-eqb, ne_eqb, lt-ltb, le-ltb, ltb-true, ltb-false}
+use borrow.Author.Tests.{ne_eqb, le-ltb, ltb-true, ltb-false}
 use denote.Enum.Declared.{tag_of}
-use Rattle.opcode.specs.Words.{pair_of, op_words}
+use Rattle.opcode.specs.Words.{op_words}
 use Rattle.opcode.specs.Members.{get_of, set_of, member_number}
 use Rattle.opcode.specs.Operators.{bin_number, from_un_op}
 use Rattle.opcode.specs.declared.operator.UnOp.{UnOp}
@@ -18,26 +18,24 @@ use Rattle.opcode.specs.contracts.member.MemberKind.{the_type as member-type}
 use Rattle.opcode.specs.declared.member.MemberKind.TheVariants as member
 use Rattle.opcode.specs.declared.operator.BinOp.{BinOp}
 use Rattle.tables.specs.Record.{Words, word, words}
-use Rattle.tables.specs.Forest.{Nodes, first, next, forest, children, own_tree, none, tree}
+use Rattle.tables.specs.Forest.{Nodes, first, next, children, own_tree, none, tree}
 use Rattle.pool.specs.Value.{str, child}
 use Rattle.rules.specs.declared.StackCode.{StackCode}
 use Rattle.rules.specs.Marker.{JumpPopIfNull, LoadConst, Copy, Swap, Label, To, Do, mark}
-use Rattle.rules.specs.Step.{Role, Expr, Use, Step, push_op, push_const, get_label, place, jump, access, expr}
+use Rattle.rules.specs.Step.{Role, Expr, Use, Step, push_op, push_const, place, jump, expr}
 use Rattle.rules.specs.Kinds.{Kind, kinds, steps_of, steps}
 use Rattle.rules.specs.Arms.{unary_code, property, get_code, set_code, safe_jump, unlabelled, member_steps, method_steps}
 use Rattle.rules.specs.Run.{State, Spot, number_of, spot_at, sought, labels, bump, emit, exec}
 use Rattle.emit.specs.Words.{limit, cap, at, code_in}
 use Rattle.emit.specs.Sinks.{Pushes, Uses}
-use Rattle.emit.specs.Rep.{Walk, Lent, Scoped, Outs, outs, Rep, Moves, Sim}
+use Rattle.emit.specs.Rep.{Walk, Lent, Scoped, Outs, outs, Rep, Sim}
 use Rattle.emit.specs.Does.{nth, access_noted, noted_look, visit_in, near, doing, does, through}
 use Rattle.emit.proofs.Basics.{clash, on_true, on_false}
-use Rattle.emit.proofs.RepLaws.{given}
 use Rattle.emit.proofs.MarkLaws.{said}
 use Rattle.emit.proofs.NameLaws.{accessed}
 use Rattle.emit.proofs.VisitLaws.{ident_number, visit_none, visit_does}
 use Rattle.plain.specs.Operators.{member_of, unary_of, is_short}
 use Rattle.plain.specs.Runs.{safe_run}
-use Rattle.plain.specs.Leaves.{JumpsSafe}
 use Rattle.plain.proofs.OperatorLaws.{member_number_lem, get_words, set_words, unary_words}
 use Rattle.visit.specs.Arms.{property_steps}
 

@@ -10,7 +10,7 @@ use Rattle.rules.specs.declared.StackCode.{StackCode}
 use Rattle.rules.specs.declared.Flow.TheVariants.{Go, Cut, Refused}
 use Rattle.rules.specs.Marker.{Call, Pop, Return, LoadLocals}
 use Rattle.rules.specs.Step.{Expr, Step, push_op, expr}
-use Rattle.rules.specs.Kinds.{Kind, kind, kinds, steps_of}
+use Rattle.rules.specs.Kinds.{kind, kinds, steps_of}
 use Rattle.rules.specs.Arms.{
   stream_steps,
   lit_steps,

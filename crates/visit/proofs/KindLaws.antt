@@ -2,10 +2,10 @@
 use mathlib.Core.Path.{◌≡◌, refl, sym, ap, ap₂, ◌∙◌}
 use mathlib.Core.Bool.{Bool, true, false, cond}
 use mathlib.Core.List.{List, [], ◌∷◌, ◌++◌}
-use Prim.Native.Nat.{ℕ, zero, suc, ◌+◌, ◌-◌, ◌≤◌, ◌<◌}
+use Prim.Native.Nat.{ℕ, zero, suc, ◌+◌, ◌-◌}
 use native.Mathlib.Omega.{arith}
 use lib.ListN.{get_or}
-use lib.Dec.{eqb, ltb}
+use lib.Dec.{eqb}
 use borrow.Author.Tests.{eq-eqb, ne_eqb}
 use Rattle.opcode.specs.declared.member.MemberKind.{MemberKind}
 use Rattle.opcode.specs.declared.operator.BinOp.{BinOp}
@@ -16,7 +16,7 @@ use Rattle.tables.proofs.ForestLaws.{forest_absent, forest_record}
 use Rattle.pool.specs.Value.{Null, child}
 use Rattle.rules.specs.declared.StackCode.{StackCode}
 use Rattle.rules.specs.declared.StackCode.TheVariants.{Code1, Code2}
-use Rattle.rules.specs.declared.Flow.TheVariants.{Go, Cut, Refused}
+use Rattle.rules.specs.declared.Flow.TheVariants.{Cut, Refused}
 use Rattle.rules.specs.Marker as rule
 use Rattle.rules.specs.Marker.{Forward, Jump, JumpIfTrueOrPop, JumpIfFalseOrPop, LoadConst, Code, Pop, Copy, Call, Return, MarkAddStackSize, Label, To, Load, Do, mark}
 use Rattle.rules.specs.Step.{

@@ -1,7 +1,7 @@
 -- The visitors' loops: what is left of the work, where the loop stands, and that the lent words keep their lengths. Assumes nothing.
 use mathlib.Core.Path.{◌≡◌, refl, sym, ap, ap₂, ◌∙◌}
 use mathlib.Core.Bool.{true, false}
-use mathlib.Core.Logic.{inl, inr, ⊎_elim}
+use mathlib.Core.Logic.{inr, ⊎_elim}
 use mathlib.Core.List.{List}
 use Prim.Native.Nat.{ℕ, zero, suc, ◌+◌, ◌-◌, ◌≤◌, ◌<◌}
 use native.Mathlib.Omega.{arith}
@@ -11,7 +11,7 @@ use Rattle.tables.specs.Forest.{first, next, children, own_tree}
 use Rattle.pool.specs.Notes.{earlier_noted}
 use Rattle.rules.specs.Marker.{Pop, Do, mark}
 use Rattle.rules.specs.Step.{Expr, Target, width}
-use Rattle.rules.specs.Run.{State, emit, kept}
+use Rattle.rules.specs.Run.{State, emit}
 use Rattle.emit.specs.Words.{cap, more, at, goes}
 use Rattle.emit.specs.Sinks.{Keeps}
 use Rattle.emit.specs.Rep.{Walk, Lent, Scoped, Outs, outs, Sim}

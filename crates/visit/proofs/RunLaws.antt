@@ -1,15 +1,12 @@
 -- Parts of variable length that visit, and the lists that hold them. Assumes nothing.
 use mathlib.Core.Path.{◌≡◌, refl, sym, ap, ◌∙◌, subst}
-use mathlib.Core.Bool.{Bool, true, false, cond}
-use mathlib.Core.List.{List, [], ◌∷◌}
-use Prim.Native.Nat.{ℕ, zero, suc, ◌+◌, ◌-◌, ◌≤◌, ◌<◌}
+use mathlib.Core.Bool.{false}
+use mathlib.Core.List.{List}
+use Prim.Native.Nat.{ℕ, zero, suc, ◌+◌, ◌-◌, ◌<◌}
 use native.Mathlib.Omega.{arith}
 use lib.ListN.{get_or}
-use lib.Dec.{eqb}
-use borrow.Author.Tests.{ne_eqb}
 use Rattle.tables.specs.Record.{words}
-use Rattle.tables.specs.Forest.{Forest, first, next, forest, children, own_tree}
-use Rattle.tables.proofs.ForestLaws.{forest_absent, forest_record}
+use Rattle.tables.specs.Forest.{first, next, forest, children, own_tree}
 use Rattle.pool.specs.Value.{int}
 use Rattle.rules.specs.declared.Flow.{Flow}
 use Rattle.rules.specs.declared.Flow.TheVariants.{Go, Cut, Refused}
@@ -20,7 +17,7 @@ use Rattle.rules.specs.Run.{State, flow, emit, kept, exec}
 use Rattle.rules.proofs.Sticky.{Ended, Sticky, exec_sticky, visits_sticky}
 use Rattle.emit.specs.Rep.{Walk, mode, Lent}
 use Rattle.emit.specs.Does.{nth, noted_look, visit_at, visit_in, own_stream, near, doing, does, through, items}
-use Rattle.emit.proofs.Basics.{is_go, clash, on_false, no_emit, no_kept}
+use Rattle.emit.proofs.Basics.{is_go, clash, no_emit, no_kept}
 use Rattle.emit.proofs.VisitLaws.{children_near, visit_none}
 use Rattle.emit.proofs.PartLaws.{nth_next, width_none, width_some, block_some}
 use Rattle.visit.specs.Runs.{bodied, bodied_all}

@@ -8,21 +8,124 @@ use lib.Dec.{lit<, eqb}
 use Rattle.tables.specs.Record.{size, word, words}
 use Rattle.tables.specs.Forest.{first, forest, own_tree, Nodes, children}
 use Rattle.emit.specs.Rep.{lent}
-use Rattle.visit.proofs.FallLaws.{falls_along, falls_to, child1, child2, falls_rank2, falls_next, linked_past, falls_rank, falls_some, falls_below, linked_nth, falls_past, falls_child}
-use Rattle.visit.proofs.LoopLaws.{all_start, all_again, all_none, all_end, blocking_start, blocking_last, blocking_again, blocking_still, bodying_start, bodying_again, bodying_end, downing_start, downing_again, downing_end, downing_never, unpacking_start, unpacking_again, unpacking_end}
-use Rattle.rules.specs.Marker.{JumpIfFalseOrPop, Pop, Jump, Return, LoadLocals, Call, Copy, Swap, CheckEffect, PopJumpIfFalse, MarkAddStackSize, TypeCheck, Import, ImportGlob, BuildList, JumpIfTrueOrPop, LoadConst, BuildTable, GetItem}
+use Rattle.visit.proofs.FallLaws.{
+  falls_along,
+  falls_to,
+  child1,
+  child2,
+  falls_rank2,
+  falls_next,
+  linked_past,
+  falls_rank,
+  falls_some,
+  falls_below,
+  linked_nth,
+  falls_past,
+  falls_child,
+}
+use Rattle.visit.proofs.LoopLaws.{
+  all_start,
+  all_again,
+  all_none,
+  all_end,
+  blocking_start,
+  blocking_last,
+  blocking_again,
+  blocking_still,
+  bodying_start,
+  bodying_again,
+  bodying_end,
+  downing_start,
+  downing_again,
+  downing_end,
+  downing_never,
+  unpacking_start,
+  unpacking_again,
+  unpacking_end,
+}
+use Rattle.rules.specs.Marker.{
+  JumpIfFalseOrPop,
+  Pop,
+  Jump,
+  Return,
+  LoadLocals,
+  Call,
+  Copy,
+  Swap,
+  CheckEffect,
+  PopJumpIfFalse,
+  MarkAddStackSize,
+  TypeCheck,
+  Import,
+  ImportGlob,
+  BuildList,
+  JumpIfTrueOrPop,
+  LoadConst,
+  BuildTable,
+  GetItem,
+}
 use Rattle.rules.specs.Step.{Expr, Target, Callee, width, Get, Before, Set, push_op, Tail, After}
 use Rattle.rules.specs.Run.{exec, number_of}
 use Rattle.emit.specs.Does.{doing, does, nth, own_stream}
 use Rattle.emit.proofs.RepLaws.{label, labelled, resim, given, stay, halted, finished}
 use Rattle.emit.proofs.MarkLaws.{placed, jumped, said, backed}
-use Rattle.visit.proofs.ArmLaws.{next_of, visited, either_yes, either_no, not_either, through_at, absent, propped, got, label_test, method_bare, method_run, by, unary, cap_word, used, member_bare, member_run, ident_at, member_tag, is_held, is_none, was_set}
+use Rattle.visit.proofs.ArmLaws.{
+  next_of,
+  visited,
+  either_yes,
+  either_no,
+  not_either,
+  through_at,
+  absent,
+  propped,
+  got,
+  label_test,
+  method_bare,
+  method_run,
+  by,
+  unary,
+  cap_word,
+  used,
+  member_bare,
+  member_run,
+  ident_at,
+  member_tag,
+  is_held,
+  is_none,
+  was_set,
+}
 use Rattle.visit.proofs.GroupLaws.{to_last, later_by, behind_body, to_later, stream_inside, to_none, last_by}
 use Rattle.plain.proofs.LeafLaws.{nulled, effect_loaded, lit_loaded, used_at, str_loaded, function_loaded, int_loaded}
 use Rattle.opcode.specs.Operators.{bin_number}
 use Rattle.opcode.specs.declared.operator.BinOp.{BinOp}
 use Rattle.plain.proofs.OperatorLaws.{is_and, is_or, operated, short_assign_lem}
-use Rattle.visit.proofs.KindLaws.{binary_run, call_plain, call_handled, callee_method, callee_plain, match_run, for_run, before_other, before_plain, before_member, before_meta, items_run, multi_yes, multi_no, property_name, tail_visit, ret_barred, ret_tail, ret_plain, target_other, target_plain, target_member, unpack_run, short_run, update_run}
+use Rattle.visit.proofs.KindLaws.{
+  binary_run,
+  call_plain,
+  call_handled,
+  callee_method,
+  callee_plain,
+  match_run,
+  for_run,
+  before_other,
+  before_plain,
+  before_member,
+  before_meta,
+  items_run,
+  multi_yes,
+  multi_no,
+  property_name,
+  tail_visit,
+  ret_barred,
+  ret_tail,
+  ret_plain,
+  target_other,
+  target_plain,
+  target_member,
+  unpack_run,
+  short_run,
+  update_run,
+}
 use Rattle.pool.specs.Value.{child, below}
 use Rattle.emit.proofs.PartLaws.{block_none, nth_next, visits_part}
 use Rattle.visit.proofs.RunLaws.{block_left}
@@ -224,7 +327,12 @@ arm-returns-in-27 t c =
 
 pub arm-returns-in_default : goal.arm-returns-in_default
 arm-returns-in_default t c =
-    resim (λ v z A. to_last (lent c.args.recs.now c.args.notes.now) v c.args.r _ c.kind.ensures c.in_default.in_default-own.rest.0.0.0.0.0.0.0.0.0.0.0.0.0.1 c.in_default.in_default-own.rest.0.0.0.0.0.0.0.0.0.0.0.0.1 c.in_default.in_default-own.rest.0.0.0.0.0.0.0.0.0.0.0.1 c.in_default.in_default-own.rest.0.0.0.0.0.0.0.0.0.0.1 c.in_default.in_default-own.rest.0.0.0.0.0.0.0.0.0.1 c.in_default.in_default-own.rest.0.0.0.0.0.0.0.0.1 c.in_default.in_default-own.rest.0.0.0.0.0.0.0.1 c.in_default.in_default-own.rest.0.0.0.0.0.0.1 c.in_default.in_default-own.rest.0.0.0.0.0.1 c.in_default.in_default-own.rest.0.0.0.0.1 c.in_default.in_default-own.rest.0.0.0.1 c.in_default.in_default-own.rest.0.0.1 c.in_default.in_default-own.rest.0.1 c.in_default.in_default-own.rest.1 A) c.rest.ensures
+    resim (λ v z A. to_last (lent c.args.recs.now c.args.notes.now) v c.args.r _ c.kind.ensures c.in_default.in_default-own.rest.0.0.0.0.0.0.0.0.0.0.0.0.0.1
+    c.in_default.in_default-own.rest.0.0.0.0.0.0.0.0.0.0.0.0.1 c.in_default.in_default-own.rest.0.0.0.0.0.0.0.0.0.0.0.1
+    c.in_default.in_default-own.rest.0.0.0.0.0.0.0.0.0.0.1 c.in_default.in_default-own.rest.0.0.0.0.0.0.0.0.0.1 c.in_default.in_default-own.rest.0.0.0.0.0.0.0.0.1
+    c.in_default.in_default-own.rest.0.0.0.0.0.0.0.1 c.in_default.in_default-own.rest.0.0.0.0.0.0.1 c.in_default.in_default-own.rest.0.0.0.0.0.1
+    c.in_default.in_default-own.rest.0.0.0.0.1 c.in_default.in_default-own.rest.0.0.0.1 c.in_default.in_default-own.rest.0.0.1 c.in_default.in_default-own.rest.0.1
+    c.in_default.in_default-own.rest.1 A) c.rest.ensures
 
 pub assign-expr-requires : goal.assign-expr-requires
 assign-expr-requires t c = (
@@ -282,13 +390,16 @@ binary-expr-requires-in_default t c = (
 
 pub binary-returns-in-And : goal.binary-returns-in-And
 binary-returns-in-And t c =
-    resim (λ v z A. either_yes (lent c.args.recs.now c.args.notes.now) v c.args.r _ _ _ A (sym (is_and (word c.args.recs.now c.args.r 1) c.binary_operator-operator.ensures) ∙ ap (λ (o : BinOp). eqb (bin_number o) 5) c.in-And.is))
+    resim (λ v z A. either_yes (lent c.args.recs.now c.args.notes.now) v c.args.r _ _ _ A (sym (is_and (word c.args.recs.now c.args.r 1)
+    c.binary_operator-operator.ensures) ∙ ap (λ (o : BinOp). eqb (bin_number o) 5) c.in-And.is))
     c.and.ensures
 
 pub binary-returns-in-Or : goal.binary-returns-in-Or
 binary-returns-in-Or t c =
-    resim (λ v z A. either_no (lent c.args.recs.now c.args.notes.now) v c.args.r _ _ _ A (sym (is_and (word c.args.recs.now c.args.r 1) c.binary_operator-operator.ensures) ∙ ap (λ (o : BinOp). eqb (bin_number o) 5) c.in-Or.is))
-    (resim (λ v z A. either_yes (lent c.args.recs.now c.args.notes.now) v c.args.r _ _ _ A (sym (is_or (word c.args.recs.now c.args.r 1) c.binary_operator-operator.ensures) ∙ ap (λ (o : BinOp). eqb (bin_number o) 6) c.in-Or.is))
+    resim (λ v z A. either_no (lent c.args.recs.now c.args.notes.now) v c.args.r _ _ _ A (sym (is_and (word c.args.recs.now c.args.r 1)
+    c.binary_operator-operator.ensures) ∙ ap (λ (o : BinOp). eqb (bin_number o) 5) c.in-Or.is))
+    (resim (λ v z A. either_yes (lent c.args.recs.now c.args.notes.now) v c.args.r _ _ _ A (sym (is_or (word c.args.recs.now c.args.r 1)
+    c.binary_operator-operator.ensures) ∙ ap (λ (o : BinOp). eqb (bin_number o) 6) c.in-Or.is))
     c.or.ensures)
 
 pub binary-returns-in_default : goal.binary-returns-in_default
@@ -298,7 +409,10 @@ binary-returns-in_default t c =
           let h1 = visited z Expr c.first-left.ensures c.expr.ensures h in
           let h2 = visited z Expr (next_of c.args.recs.now c.next-right.ensures c.first-left.ensures) c.expr-in_default.ensures h1 in
           given (binary_run (lent c.args.recs.now c.args.notes.now) v c.args.r (sym (is_and (word c.args.recs.now c.args.r 1)
-          c.binary_operator-operator.ensures) ∙ (not_either c.binary_operator-operator.result (sym (neither_short c.binary_operator-operator.result c.in_default.not-And c.in_default.not-Or))).0) (sym (is_or (word c.args.recs.now c.args.r 1) c.binary_operator-operator.ensures) ∙ (not_either c.binary_operator-operator.result (sym (neither_short c.binary_operator-operator.result c.in_default.not-And c.in_default.not-Or))).1) A) (operated (word c.args.recs.now c.args.r 1)
+          c.binary_operator-operator.ensures) ∙ (not_either c.binary_operator-operator.result (sym (neither_short c.binary_operator-operator.result
+          c.in_default.not-And c.in_default.not-Or))).0) (sym (is_or (word c.args.recs.now c.args.r 1) c.binary_operator-operator.ensures) ∙ (not_either
+          c.binary_operator-operator.result (sym (neither_short c.binary_operator-operator.result c.in_default.not-And c.in_default.not-Or))).1) A) (operated (word
+          c.args.recs.now c.args.r 1)
           c.binary_operator-operator.ensures c.args.r c.push_binary.ensures h2);
     }
 
@@ -321,7 +435,8 @@ block-expr-requires t c =
 pub block-returns-then-child-eq0-2 : goal.block-returns-then-child-eq0-2
 block-returns-then-child-eq0-2 t c =
     resim (λ v z A. block_left (lent c.args.recs.now c.args.notes.now) v c.args.r c.first-child.ensures c.if-child-eq0.false A)
-    (blocking_last (lent c.args.recs.now c.args.notes.now) c.args.r c.loop-code.invariant (sym c.goes_on.ensures ∙ c.loop-code-test.true) c.expr.ensures c.keep_error.ensures c.next-child.ensures c.if-child-eq0-2.true)
+    (blocking_last (lent c.args.recs.now c.args.notes.now) c.args.r c.loop-code.invariant (sym c.goes_on.ensures ∙ c.loop-code-test.true) c.expr.ensures
+    c.keep_error.ensures c.next-child.ensures c.if-child-eq0-2.true)
 
 pub block-loop-code-smaller : goal.block-loop-code-smaller
 block-loop-code-smaller t c =
@@ -329,7 +444,8 @@ block-loop-code-smaller t c =
 
 pub block-loop-code-preserved : goal.block-loop-code-preserved
 block-loop-code-preserved t c =
-    blocking_again (lent c.args.recs.now c.args.notes.now) c.args.r c.loop-code.invariant (sym c.goes_on.ensures ∙ c.loop-code-test.true) c.expr.ensures c.keep_error.ensures c.next-child.ensures c.if-child-eq0-2.false
+    blocking_again (lent c.args.recs.now c.args.notes.now) c.args.r c.loop-code.invariant (sym c.goes_on.ensures ∙ c.loop-code-test.true) c.expr.ensures
+    c.keep_error.ensures c.next-child.ensures c.if-child-eq0-2.false
     (record {
       sim = λ z v o₀ A h.
           said c.args.r Pop 0 refl refl c.push_pop.ensures h;
@@ -347,7 +463,8 @@ bodies-loop-at-init t c =
 
 pub bodies-expr-requires : goal.bodies-expr-requires
 bodies-expr-requires t c = (
-  falls_along (size c.args.recs.now) c.args.first _ 12 13 t c.decreases (lit< tt) c.loop-at.invariant.along c.loop-at-test.true (λ e. c.loop-at-test.true (c.loop-at.invariant.none e)),
+  falls_along (size c.args.recs.now) c.args.first _ 12 13 t c.decreases (lit< tt) c.loop-at.invariant.along c.loop-at-test.true (λ e. c.loop-at-test.true
+      (c.loop-at.invariant.none e)),
   tt,
 )
 
@@ -423,9 +540,13 @@ call-returns-then-handlers-eq0 t c =
     record {
       sim = λ z v o₀ A h.
           let h1 = visited z Callee c.first-callee.ensures c.called.ensures h in
-          let h2 = through_at z (c.arguments_len-n.ensures ∙ ap (λ (x : ℕ). arguments (own_tree (forest c.args.recs.now x))) (next_of c.args.recs.now c.next-arguments.ensures c.first-callee.ensures)) (next_of c.args.recs.now c.next-arguments.ensures c.first-callee.ensures) c.all.ensures h1 in
+          let h2 = through_at z (c.arguments_len-n.ensures ∙ ap (λ (x : ℕ). arguments (own_tree (forest c.args.recs.now x))) (next_of c.args.recs.now
+          c.next-arguments.ensures c.first-callee.ensures)) (next_of c.args.recs.now c.next-arguments.ensures c.first-callee.ensures) c.all.ensures h1 in
           given (call_plain (lent c.args.recs.now c.args.notes.now) v c.args.r (call_of c.args.tail) (sym (c.nth-handlers.ensures ∙ ap₂
-          (nth c.args.recs.now) (c.arguments_len-n.ensures ∙ ap (λ (x : ℕ). arguments (own_tree (forest c.args.recs.now x))) (next_of c.args.recs.now c.next-arguments.ensures c.first-callee.ensures)) (next_of c.args.recs.now c.next-arguments.ensures c.first-callee.ensures)) ∙ c.if-handlers-eq0.true) A) (said c.args.r (call_of c.args.tail) _ refl (c.argument_count-argument_count.ensures ∙ ap₂ (λ (x y : ℕ). cap (argument_count c.args.recs.now x y)) c.first-callee.ensures (c.arguments_len-n.ensures ∙ ap (λ (x : ℕ). arguments (own_tree (forest c.args.recs.now
+          (nth c.args.recs.now) (c.arguments_len-n.ensures ∙ ap (λ (x : ℕ). arguments (own_tree (forest c.args.recs.now x))) (next_of c.args.recs.now
+          c.next-arguments.ensures c.first-callee.ensures)) (next_of c.args.recs.now c.next-arguments.ensures c.first-callee.ensures)) ∙ c.if-handlers-eq0.true) A)
+          (said c.args.r (call_of c.args.tail) _ refl (c.argument_count-argument_count.ensures ∙ ap₂ (λ (x y : ℕ). cap (argument_count c.args.recs.now x y))
+          c.first-callee.ensures (c.arguments_len-n.ensures ∙ ap (λ (x : ℕ). arguments (own_tree (forest c.args.recs.now
           x))) (next_of c.args.recs.now c.next-arguments.ensures c.first-callee.ensures))) c.push_calling.ensures h2);
     }
 
@@ -441,16 +562,21 @@ call-returns t c =
     record {
       sim = λ z v o₀ A h.
           let h1 = visited z Callee c.first-callee.ensures c.called.ensures h in
-          let h2 = through_at z (c.arguments_len-n.ensures ∙ ap (λ (x : ℕ). arguments (own_tree (forest c.args.recs.now x))) (next_of c.args.recs.now c.next-arguments.ensures c.first-callee.ensures)) (next_of c.args.recs.now c.next-arguments.ensures c.first-callee.ensures) c.all.ensures h1 in
+          let h2 = through_at z (c.arguments_len-n.ensures ∙ ap (λ (x : ℕ). arguments (own_tree (forest c.args.recs.now x))) (next_of c.args.recs.now
+          c.next-arguments.ensures c.first-callee.ensures)) (next_of c.args.recs.now c.next-arguments.ensures c.first-callee.ensures) c.all.ensures h1 in
           let l = label c.get_label-end_label.ensures h2 in
           let h3 = labelled c.get_label-end_label.ensures h2 in
           let k = c.registers-handler_label.ensures.label ∙ h3.reads.labels in
           let h4 = (c.registers-handler_label.ensures.moves _ c.args.r).moves v o₀ _ h3 in
-          let h5 = said c.args.r Call _ refl (c.argument_count-argument_count.ensures ∙ ap₂ (λ (x y : ℕ). cap (argument_count c.args.recs.now x y)) c.first-callee.ensures (c.arguments_len-n.ensures ∙ ap (λ (x : ℕ). arguments (own_tree (forest c.args.recs.now x))) (next_of c.args.recs.now c.next-arguments.ensures c.first-callee.ensures))) c.push_call.ensures h4 in
+          let h5 = said c.args.r Call _ refl (c.argument_count-argument_count.ensures ∙ ap₂ (λ (x y : ℕ). cap (argument_count c.args.recs.now x y))
+          c.first-callee.ensures (c.arguments_len-n.ensures ∙ ap (λ (x : ℕ). arguments (own_tree (forest c.args.recs.now x))) (next_of c.args.recs.now
+          c.next-arguments.ensures c.first-callee.ensures))) c.push_call.ensures h4 in
           let h6 = jumped c.args.r Jump _ refl l c.push_jump.ensures h5 in
           let h7 = (c.bodies.ensures.bodies c.args.r _ _ k l).sim z v o₀ _ h6 in
           given (call_handled (lent c.args.recs.now c.args.notes.now) v c.args.r (call_of c.args.tail) (c.nth-handlers.ensures ∙ ap₂ (nth
-          c.args.recs.now) (c.arguments_len-n.ensures ∙ ap (λ (x : ℕ). arguments (own_tree (forest c.args.recs.now x))) (next_of c.args.recs.now c.next-arguments.ensures c.first-callee.ensures)) (next_of c.args.recs.now c.next-arguments.ensures c.first-callee.ensures)) c.if-handlers-eq0.false A) (placed c.args.r _ refl l c.push_label.ensures h7);
+          c.args.recs.now) (c.arguments_len-n.ensures ∙ ap (λ (x : ℕ). arguments (own_tree (forest c.args.recs.now x))) (next_of c.args.recs.now
+          c.next-arguments.ensures c.first-callee.ensures)) (next_of c.args.recs.now c.next-arguments.ensures c.first-callee.ensures)) c.if-handlers-eq0.false A)
+          (placed c.args.r _ refl l c.push_label.ensures h7);
     }
 
 pub called-returns-then-callee-eq0 : goal.called-returns-then-callee-eq0
@@ -543,7 +669,8 @@ cases-returns t c =
           let h7 = (c.bodies.ensures.bodies c.args.r _ _ k l).sim z v o₀ _ h6 in
           let h8 = placed c.args.r _ refl l c.push_label.ensures h7 in
           let h9 = said c.args.r Swap 2 refl refl c.push_swap.ensures h8 in
-          given (match_run (lent c.args.recs.now c.args.notes.now) v c.args.r (next_of c.args.recs.now c.next-cases.ensures c.first-value.ensures) c.width.ensures (λ e. c.if-value-eq0.false (c.first-value.ensures ∙ e)) A) (said c.args.r Pop 0 refl refl c.push_pop.ensures h9);
+          given (match_run (lent c.args.recs.now c.args.notes.now) v c.args.r (next_of c.args.recs.now c.next-cases.ensures c.first-value.ensures) c.width.ensures (λ
+          e. c.if-value-eq0.false (c.first-value.ensures ∙ e)) A) (said c.args.r Pop 0 refl refl c.push_pop.ensures h9);
     }
 
 pub catch-expr-requires : goal.catch-expr-requires
@@ -567,7 +694,8 @@ catch-returns t c =
       catches = λ q. record {
         sim = λ z v o₀ A h.
             let h1 = effect_loaded (lent c.args.recs.now c.args.notes.now) c.args.handler z q c.capped.ensures c.push_load_const.ensures h in
-            let h2 = said c.args.handler CheckEffect _ refl (c.params_len.ensures ∙ ap (λ (y : ℕ). cap (width (below (own_tree (forest c.args.recs.now y)) 0))) (next_of c.args.recs.now c.next-params.ensures c.first-effect.ensures) ∙ ap (λ (k : Nodes). cap (width k)) (sym (below_nodes
+            let h2 = said c.args.handler CheckEffect _ refl (c.params_len.ensures ∙ ap (λ (y : ℕ). cap (width (below (own_tree (forest c.args.recs.now y)) 0)))
+            (next_of c.args.recs.now c.next-params.ensures c.first-effect.ensures) ∙ ap (λ (k : Nodes). cap (width k)) (sym (below_nodes
             c.args.recs.now (first c.args.recs.now c.args.handler) 0))) c.push_check_effect.ensures h1 in
             let h3 = visited z Expr (next_of c.args.recs.now c.next-params.ensures c.first-effect.ensures) c.expr.ensures h2 in
             visited z Expr (next_of c.args.recs.now c.next-body.ensures (next_of c.args.recs.now c.next-params.ensures c.first-effect.ensures)) c.expr-2.ensures h3;
@@ -586,7 +714,8 @@ cond-expr-requires-2 t c = (
 
 pub cond-expr-requires-then-detail-eq-WITH_ELSE : goal.cond-expr-requires-then-detail-eq-WITH_ELSE
 cond-expr-requires-then-detail-eq-WITH_ELSE t c = (
-  falls_to (size c.args.recs.now) c.args.r _ 12 7 t c.decreases (lit< tt) (child2 c.args.recs.now c.next-alternate.ensures (child2 c.args.recs.now c.next-consequent.ensures (child1 c.args.recs.now c.first-test.ensures))),
+  falls_to (size c.args.recs.now) c.args.r _ 12 7 t c.decreases (lit< tt) (child2 c.args.recs.now c.next-alternate.ensures (child2 c.args.recs.now
+      c.next-consequent.ensures (child1 c.args.recs.now c.first-test.ensures))),
   tt,
 )
 
@@ -605,7 +734,8 @@ cond-returns-then-detail-eq-WITH_ELSE t c =
           let h5 = visited z Expr (next_of c.args.recs.now c.next-consequent.ensures c.first-test.ensures) c.expr-2.ensures h4 in
           let h6 = jumped c.args.r Jump _ refl m c.push_jump.ensures h5 in
           let h7 = placed c.args.r _ refl l c.push_label.ensures h6 in
-          let h8 = visited z Expr (next_of c.args.recs.now c.next-alternate.ensures (next_of c.args.recs.now c.next-consequent.ensures c.first-test.ensures)) c.expr-then-detail-eq-WITH_ELSE.ensures h7 in
+          let h8 = visited z Expr (next_of c.args.recs.now c.next-alternate.ensures (next_of c.args.recs.now c.next-consequent.ensures c.first-test.ensures))
+          c.expr-then-detail-eq-WITH_ELSE.ensures h7 in
           placed c.args.r _ refl m c.push_label-then-detail-eq-WITH_ELSE.ensures h8;
     })
 
@@ -796,7 +926,8 @@ expr-returns-in-11 t c =
     (record {
       sim = λ z v o₀ A h.
           let h1 = visited z Expr c.first-in-11.ensures c.expr-in-11.ensures h in
-          said c.args.r TypeCheck (word c.args.recs.now c.args.r 1) refl (cap_word _ (let g = c.detail.type_inv in search rules) ∙ ap cap c.detail.ensures) c.push_type_check.ensures h1;
+          said c.args.r TypeCheck (word c.args.recs.now c.args.r 1) refl (cap_word _ (let g = c.detail.type_inv in search rules) ∙ ap cap c.detail.ensures)
+          c.push_type_check.ensures h1;
     })
 
 pub expr-returns-in-12 : goal.expr-returns-in-12
@@ -813,7 +944,11 @@ expr-returns-in-13 t c =
 
 pub expr-returns-in_default : goal.expr-returns-in_default
 expr-returns-in_default t c =
-    resim (λ v z A. to_later (lent c.args.recs.now c.args.notes.now) v c.args.r _ c.if-r-eq0.false c.kind.ensures c.in_default.in_default-own.rest.0.0.0.0.0.0.0.0.0.0.0.0.1 c.in_default.in_default-own.rest.0.0.0.0.0.0.0.0.0.0.0.1 c.in_default.in_default-own.rest.0.0.0.0.0.0.0.0.0.0.1 c.in_default.in_default-own.rest.0.0.0.0.0.0.0.0.0.1 c.in_default.in_default-own.rest.0.0.0.0.0.0.0.0.1 c.in_default.in_default-own.rest.0.0.0.0.0.0.0.1 c.in_default.in_default-own.rest.0.0.0.0.0.0.1 c.in_default.in_default-own.rest.0.0.0.0.0.1 c.in_default.in_default-own.rest.0.0.0.0.1 c.in_default.in_default-own.rest.0.0.0.1 c.in_default.in_default-own.rest.0.0.1
+    resim (λ v z A. to_later (lent c.args.recs.now c.args.notes.now) v c.args.r _ c.if-r-eq0.false c.kind.ensures
+    c.in_default.in_default-own.rest.0.0.0.0.0.0.0.0.0.0.0.0.1 c.in_default.in_default-own.rest.0.0.0.0.0.0.0.0.0.0.0.1
+    c.in_default.in_default-own.rest.0.0.0.0.0.0.0.0.0.0.1 c.in_default.in_default-own.rest.0.0.0.0.0.0.0.0.0.1 c.in_default.in_default-own.rest.0.0.0.0.0.0.0.0.1
+    c.in_default.in_default-own.rest.0.0.0.0.0.0.0.1 c.in_default.in_default-own.rest.0.0.0.0.0.0.1 c.in_default.in_default-own.rest.0.0.0.0.0.1
+    c.in_default.in_default-own.rest.0.0.0.0.1 c.in_default.in_default-own.rest.0.0.0.1 c.in_default.in_default-own.rest.0.0.1
     c.in_default.in_default-own.rest.0.1 c.in_default.in_default-own.rest.1 A) c.arm.ensures
 
 pub fetch-returns-then-left-eq0 : goal.fetch-returns-then-left-eq0
@@ -827,7 +962,8 @@ fetch-returns-then-kind-ne-LEFT t c =
 pub fetch-returns-then-detail-eq-PLAIN : goal.fetch-returns-then-detail-eq-PLAIN
 unfolding does doing exec
 fetch-returns-then-detail-eq-PLAIN t c =
-    resim (λ v z A. before_plain (lent c.args.recs.now c.args.notes.now) v c.args.left c.if-left-eq0.false (sym c.kind.ensures ∙ c.if-kind-ne-LEFT.false) (sym c.detail.ensures ∙ c.if-detail-eq-PLAIN.true) A)
+    resim (λ v z A. before_plain (lent c.args.recs.now c.args.notes.now) v c.args.left c.if-left-eq0.false (sym c.kind.ensures ∙ c.if-kind-ne-LEFT.false) (sym
+    c.detail.ensures ∙ c.if-detail-eq-PLAIN.true) A)
     (record {
       sim = λ z v o₀ A h.
           used z c.args.left 0 Get c.first.ensures c.load.ensures h;
@@ -840,7 +976,8 @@ fetch-returns-then-is_meta t c =
       sim = λ z v o₀ A h.
           let h1 = used z c.args.left 0 Get c.first.ensures c.load.ensures h in
           let h2 = said c.args.left Copy 1 refl refl c.push_copy.ensures h1 in
-          given (before_meta (lent c.args.recs.now c.args.notes.now) v c.args.left c.if-left-eq0.false (sym c.kind.ensures ∙ c.if-kind-ne-LEFT.false) (λ e. c.if-detail-eq-PLAIN.false (c.detail.ensures ∙ e)) c.left_property-property.ensures (sym c.is_meta.ensures ∙ c.if-is_meta.true) A) (got
+          given (before_meta (lent c.args.recs.now c.args.notes.now) v c.args.left c.if-left-eq0.false (sym c.kind.ensures ∙ c.if-kind-ne-LEFT.false) (λ e.
+          c.if-detail-eq-PLAIN.false (c.detail.ensures ∙ e)) c.left_property-property.ensures (sym c.is_meta.ensures ∙ c.if-is_meta.true) A) (got
           c.args.left (word c.args.recs.now c.args.left 1 - 1) c.left_property-property.ensures c.push_get.ensures h2);
     }
 
@@ -857,7 +994,9 @@ fetch-returns t c =
           let h2 = propped z c.args.left (word c.args.recs.now c.args.left 1 - 1) c.left_property-property.ensures c.prop.ensures h1 in
           let h3 = said c.args.left Copy 2 refl refl c.push_copy-2.ensures h2 in
           let h4 = said c.args.left Copy 2 refl refl c.push_copy-3.ensures h3 in
-          given (before_member (lent c.args.recs.now c.args.notes.now) v c.args.left c.if-left-eq0.false (sym c.kind.ensures ∙ c.if-kind-ne-LEFT.false) (λ e. c.if-detail-eq-PLAIN.false (c.detail.ensures ∙ e)) c.left_property-property.ensures (sym c.is_meta.ensures ∙ c.if-is_meta.false) A) (got c.args.left (word c.args.recs.now c.args.left 1 - 1) c.left_property-property.ensures c.push_get-2.ensures h4);
+          given (before_member (lent c.args.recs.now c.args.notes.now) v c.args.left c.if-left-eq0.false (sym c.kind.ensures ∙ c.if-kind-ne-LEFT.false) (λ e.
+          c.if-detail-eq-PLAIN.false (c.detail.ensures ∙ e)) c.left_property-property.ensures (sym c.is_meta.ensures ∙ c.if-is_meta.false) A) (got c.args.left
+          (word c.args.recs.now c.args.left 1 - 1) c.left_property-property.ensures c.push_get-2.ensures h4);
     }
 
 pub func-expr-requires : goal.func-expr-requires
@@ -920,7 +1059,8 @@ import-returns-in-2 t c =
       sim = λ z v o₀ A h.
           let h1 = str_loaded c.args.r Import (word c.args.recs.now c.args.r 3) c.q.ensures c.push_import.ensures h in
           let q = (sym c.detail.ensures ∙ c.in-2.is) in
-          let h2 = through_at z ((c.width.ensures ∙ ap (λ (x : ℕ). width (own_tree (forest c.args.recs.now x))) (c.nth-items.ensures ∙ ap₂ (nth c.args.recs.now) c.p.ensures c.first.ensures)) ∙ sym (width_past c.args.recs.now (word c.args.recs.now c.args.r
+          let h2 = through_at z ((c.width.ensures ∙ ap (λ (x : ℕ). width (own_tree (forest c.args.recs.now x))) (c.nth-items.ensures ∙ ap₂ (nth c.args.recs.now)
+          c.p.ensures c.first.ensures)) ∙ sym (width_past c.args.recs.now (word c.args.recs.now c.args.r
           2) (first c.args.recs.now c.args.r))) (c.nth-items.ensures ∙ ap₂ (nth c.args.recs.now) c.p.ensures c.first.ensures)
           c.all.ensures h1 in
           let h3 = said c.args.r Pop 0 refl refl c.push_pop.ensures h2 in
@@ -936,7 +1076,8 @@ import-returns-in-0 t c =
       sim = λ z v o₀ A h.
           let h1 = str_loaded c.args.r Import (word c.args.recs.now c.args.r 3) c.q.ensures c.push_import.ensures h in
           let h2 = (c.simple.ensures _).sim z v o₀ _ h1 in
-          given (either_yes (lent c.args.recs.now c.args.notes.now) v c.args.r _ _ _ _ (lt-ltb _ 2 (subst (λ (d : ℕ). d < 2) c.detail.ensures c.in-0.if-this-lt2-own.true)) ∙ simple_part (lent c.args.recs.now c.args.notes.now) v c.args.r (word c.args.recs.now
+          given (either_yes (lent c.args.recs.now c.args.notes.now) v c.args.r _ _ _ _ (lt-ltb _ 2 (subst (λ (d : ℕ). d < 2) c.detail.ensures
+          c.in-0.if-this-lt2-own.true)) ∙ simple_part (lent c.args.recs.now c.args.notes.now) v c.args.r (word c.args.recs.now
           c.args.r 2) _) (nulled c.args.r c.push_null-in-0.ensures h2);
     }
 
@@ -948,26 +1089,32 @@ import-returns-in_default t c =
           let h1 = str_loaded c.args.r Import (word c.args.recs.now c.args.r 3) c.q.ensures c.push_import.ensures h in
           let h2 = said c.args.r ImportGlob 0 refl refl c.push_import_glob.ensures h1 in
           given (either_no (lent c.args.recs.now c.args.notes.now) v c.args.r _ _ _ _ (le-ltb (word c.args.recs.now c.args.r
-          1) 2 (subst (λ (d : ℕ). 2 ≤ d) c.detail.ensures c.in_default.if-this-lt2-own.false)) ∙ either_no (lent c.args.recs.now c.args.notes.now) v c.args.r _ _ _ _ (ne_eqb _ 2 (λ e. c.in_default.in_default-own.rest.1 (c.detail.ensures ∙ e)))) (nulled c.args.r c.push_null-in_default.ensures h2);
+          1) 2 (subst (λ (d : ℕ). 2 ≤ d) c.detail.ensures c.in_default.if-this-lt2-own.false)) ∙ either_no (lent c.args.recs.now c.args.notes.now) v c.args.r _ _ _ _
+          (ne_eqb _ 2 (λ e. c.in_default.in_default-own.rest.1 (c.detail.ensures ∙ e)))) (nulled c.args.r c.push_null-in_default.ensures h2);
     }
 
 pub inner-returns-then-not-nests : goal.inner-returns-then-not-nests
 inner-returns-then-not-nests t c =
     resim (λ v z A. stream_inside (lent c.args.recs.now c.args.notes.now) v c.args.r A)
-    (inside_none (lent c.args.recs.now c.args.notes.now) c.args.r (words c.args.recs.now c.args.r) (λ v. does (lent c.args.recs.now c.args.notes.now) v c.args.r (stream_steps (words c.args.recs.now c.args.r))) (sym c.nests.ensures ∙ not-true
+    (inside_none (lent c.args.recs.now c.args.notes.now) c.args.r (words c.args.recs.now c.args.r) (λ v. does (lent c.args.recs.now c.args.notes.now) v c.args.r
+    (stream_steps (words c.args.recs.now c.args.r))) (sym c.nests.ensures ∙ not-true
     _ (ap not c.if-not-nests.true)))
 
 pub inner-returns-then-not-goes_on : goal.inner-returns-then-not-goes_on
 inner-returns-then-not-goes_on t c =
     resim (λ v z A. stream_inside (lent c.args.recs.now c.args.notes.now) v c.args.r A)
-    (inside_still (lent c.args.recs.now c.args.notes.now) c.args.r (words c.args.recs.now c.args.r) (λ v. does (lent c.args.recs.now c.args.notes.now) v c.args.r (stream_steps (words c.args.recs.now c.args.r))) (sym c.goes_on.ensures ∙
+    (inside_still (lent c.args.recs.now c.args.notes.now) c.args.r (words c.args.recs.now c.args.r) (λ v. does (lent c.args.recs.now c.args.notes.now) v c.args.r
+    (stream_steps (words c.args.recs.now c.args.r))) (sym c.goes_on.ensures ∙
     not-true _ (ap not c.if-not-goes_on.true)))
 
 pub inner-returns-then-not-is_numbered : goal.inner-returns-then-not-is_numbered
 inner-returns-then-not-is_numbered t c =
     resim (λ v z A. stream_inside (lent c.args.recs.now c.args.notes.now) v c.args.r A)
-    (inside_skipped (lent c.args.recs.now c.args.notes.now) c.args.r (words c.args.recs.now c.args.r) (λ v. does (lent c.args.recs.now c.args.notes.now) v c.args.r (stream_steps (words c.args.recs.now c.args.r))) (let s : word c.args.recs.now c.args.r 2 ≤ limit = omega (arith, c.type_inv.recs (c.args.r * 8 + 2)) in s) (sym c.nests.ensures ∙
-    not-false _ (ap not c.if-not-nests.false)) (sym c.goes_on.ensures ∙ not-false _ (ap not c.if-not-goes_on.false)) c.is_numbered.ensures (not-true _ (ap not c.if-not-is_numbered.true)) c.refuse.ensures)
+    (inside_skipped (lent c.args.recs.now c.args.notes.now) c.args.r (words c.args.recs.now c.args.r) (λ v. does (lent c.args.recs.now c.args.notes.now) v c.args.r
+    (stream_steps (words c.args.recs.now c.args.r))) (let s : word c.args.recs.now c.args.r 2 ≤ limit = omega (arith, c.type_inv.recs (c.args.r * 8 + 2)) in s)
+    (sym c.nests.ensures ∙
+    not-false _ (ap not c.if-not-nests.false)) (sym c.goes_on.ensures ∙ not-false _ (ap not c.if-not-goes_on.false)) c.is_numbered.ensures (not-true _ (ap not
+    c.if-not-is_numbered.true)) c.refuse.ensures)
 
 pub inner-body-requires : goal.inner-body-requires
 inner-body-requires t c =
@@ -976,8 +1123,11 @@ inner-body-requires t c =
 pub inner-returns : goal.inner-returns
 inner-returns t c =
     resim (λ v z A. stream_inside (lent c.args.recs.now c.args.notes.now) v c.args.r A)
-    (inside_goes (lent c.args.recs.now c.args.notes.now) c.args.r (words c.args.recs.now c.args.r) (λ v. does (lent c.args.recs.now c.args.notes.now) v c.args.r (stream_steps (words c.args.recs.now c.args.r))) (let s : word c.args.recs.now c.args.r 2 ≤ limit = omega (arith, c.type_inv.recs (c.args.r * 8 + 2)) in s) (sym c.nests.ensures ∙
-    not-false _ (ap not c.if-not-nests.false)) (sym c.goes_on.ensures ∙ not-false _ (ap not c.if-not-goes_on.false)) c.is_numbered.ensures (not-false _ (ap not c.if-not-is_numbered.false))
+    (inside_goes (lent c.args.recs.now c.args.notes.now) c.args.r (words c.args.recs.now c.args.r) (λ v. does (lent c.args.recs.now c.args.notes.now) v c.args.r
+    (stream_steps (words c.args.recs.now c.args.r))) (let s : word c.args.recs.now c.args.r 2 ≤ limit = omega (arith, c.type_inv.recs (c.args.r * 8 + 2)) in s)
+    (sym c.nests.ensures ∙
+    not-false _ (ap not c.if-not-nests.false)) (sym c.goes_on.ensures ∙ not-false _ (ap not c.if-not-goes_on.false)) c.is_numbered.ensures (not-false _ (ap not
+    c.if-not-is_numbered.false))
     c.begin_function-outer.ensures c.body.ensures c.keep_error.ensures c.end_function.ensures)
 
 pub list-all-requires : goal.list-all-requires
@@ -1088,7 +1238,8 @@ multi-returns t c =
       sim = λ z v o₀ A h.
           let h1 = through_at z c.p-n.ensures (c.nth-right.ensures ∙ ap₂ (nth c.args.recs.now) c.p-n.ensures c.first-left.ensures) c.all.ensures h in
           let h2 = (downing_end (lent c.args.recs.now c.args.notes.now) c.args.r _ c.loop-i.invariant c.loop-i-test.false).sim z v o₀ _ h1 in
-          given (multi_yes (lent c.args.recs.now c.args.notes.now) v c.args.r c.p-n.ensures (ap (λ (n : ℕ). n + n) (sym c.p-n.ensures) ∙ c.if-n-width.false ∙ (c.width.ensures ∙ ap (λ (x : ℕ). width (own_tree (forest c.args.recs.now x))) c.first-left.ensures))
+          given (multi_yes (lent c.args.recs.now c.args.notes.now) v c.args.r c.p-n.ensures (ap (λ (n : ℕ). n + n) (sym c.p-n.ensures) ∙ c.if-n-width.false ∙
+          (c.width.ensures ∙ ap (λ (x : ℕ). width (own_tree (forest c.args.recs.now x))) c.first-left.ensures))
           A) (nulled c.args.r c.push_null.ensures h2);
     }
 
@@ -1134,17 +1285,20 @@ pub prop-returns-in-Dot : goal.prop-returns-in-Dot
 unfolding does doing exec
 prop-returns-in-Dot t c =
     resim (λ v z A. either_no (lent c.args.recs.now c.args.notes.now) v c.args.r _ _ _ A (ne_eqb _ 0 (is_held (subst (λ (n : ℕ). (n ≡ 1)
-    ⊎ (n ≡ 2)) (member_tag c.args.property) c.in-Dot.in-Dot-own.keys2)).0) ∙ either_yes (lent c.args.recs.now c.args.notes.now) v c.args.r _ _ _ A (lt-ltb _ 3 (is_held (subst (λ (n : ℕ). (n ≡ 1) ⊎ (n ≡ 2)) (member_tag c.args.property) c.in-Dot.in-Dot-own.keys2)).1))
+    ⊎ (n ≡ 2)) (member_tag c.args.property) c.in-Dot.in-Dot-own.keys2)).0) ∙ either_yes (lent c.args.recs.now c.args.notes.now) v c.args.r _ _ _ A (lt-ltb _ 3 (is_held
+    (subst (λ (n : ℕ). (n ≡ 1) ⊎ (n ≡ 2)) (member_tag c.args.property) c.in-Dot.in-Dot-own.keys2)).1))
     (record {
       sim = λ z v o₀ A h.
-          str_loaded (number_of (ident_at c.args.recs.now c.args.r 1)) LoadConst (child (own_tree (children c.args.recs.now c.args.r)) 1).q (property_name c.args.recs.now c.args.r c.first-before.ensures c.next-held.ensures c.name_of-name.ensures) c.push_load_const.ensures h;
+          str_loaded (number_of (ident_at c.args.recs.now c.args.r 1)) LoadConst (child (own_tree (children c.args.recs.now c.args.r)) 1).q (property_name
+          c.args.recs.now c.args.r c.first-before.ensures c.next-held.ensures c.name_of-name.ensures) c.push_load_const.ensures h;
     })
 
 pub prop-returns-in_default : goal.prop-returns-in_default
 unfolding does doing exec
 prop-returns-in_default t c =
     resim (λ v z A. either_no (lent c.args.recs.now c.args.notes.now) v c.args.r _ _ _ A (ne_eqb _ 0 (is_none (subst (λ (n : ℕ). (n ≡ 3) ⊎
-    ((n ≡ 4) ⊎ (n ≡ 5))) (member_tag c.args.property) c.in_default.in_default-own.keys3)).0) ∙ either_no (lent c.args.recs.now c.args.notes.now) v c.args.r _ _ _ A (le-ltb _ 3 (is_none (subst (λ (n : ℕ). (n ≡ 3) ⊎ ((n ≡ 4) ⊎ (n ≡ 5))) (member_tag c.args.property) c.in_default.in_default-own.keys3)).1))
+    ((n ≡ 4) ⊎ (n ≡ 5))) (member_tag c.args.property) c.in_default.in_default-own.keys3)).0) ∙ either_no (lent c.args.recs.now c.args.notes.now) v c.args.r _ _ _ A
+    (le-ltb _ 3 (is_none (subst (λ (n : ℕ). (n ≡ 3) ⊎ ((n ≡ 4) ⊎ (n ≡ 5))) (member_tag c.args.property) c.in_default.in_default-own.keys3)).1))
     stay
 
 pub repeat-expr-requires : goal.repeat-expr-requires
@@ -1237,7 +1391,8 @@ rest-returns-in-39 t c =
 
 pub rest-returns-in_default : goal.rest-returns-in_default
 rest-returns-in_default t c =
-    resim (λ v z A. to_none (lent c.args.recs.now c.args.notes.now) v c.args.r _ c.kind.ensures c.in_default.in_default-own.rest.0.0.0.0.1 c.in_default.in_default-own.rest.0.0.0.1 c.in_default.in_default-own.rest.0.0.1 c.in_default.in_default-own.rest.0.1 c.in_default.in_default-own.rest.1 A) stay
+    resim (λ v z A. to_none (lent c.args.recs.now c.args.notes.now) v c.args.r _ c.kind.ensures c.in_default.in_default-own.rest.0.0.0.0.1
+    c.in_default.in_default-own.rest.0.0.0.1 c.in_default.in_default-own.rest.0.0.1 c.in_default.in_default-own.rest.0.1 c.in_default.in_default-own.rest.1 A) stay
 
 pub ret-returns-then-is_in_do : goal.ret-returns-then-is_in_do
 ret-returns-then-is_in_do t c =
@@ -1260,8 +1415,10 @@ ret-returns-then-is_tail t c =
       sim = λ z v o₀ A h.
           let h1 = bar_no (words c.args.recs.now c.args.r) z.small c.is_in_do.ensures h c.if-is_in_do.false in
           let h2 = (c.push_return_label.ensures _ _ c.args.r).moves v o₀ _ h1 in
-          let h3 = visited z Tail c.first-argument.ensures (resim (λ v z A. tail_visit (lent c.args.recs.now c.args.notes.now) v _ (tail_call c.args.recs.now _ (sym c.is_tail.ensures ∙ c.if-is_tail.true)).0 (tail_call c.args.recs.now _ (sym c.is_tail.ensures ∙ c.if-is_tail.true)).1 A) c.call.ensures) h2 in
-          given (ret_tail (lent c.args.recs.now c.args.notes.now) v c.args.r (ap (λ (x : ℕ). is_tail (own_tree (forest c.args.recs.now x))) (sym c.first-argument.ensures) ∙ sym c.is_tail.ensures ∙ c.if-is_tail.true) A) (nulled c.args.r c.push_null.ensures h3);
+          let h3 = visited z Tail c.first-argument.ensures (resim (λ v z A. tail_visit (lent c.args.recs.now c.args.notes.now) v _ (tail_call c.args.recs.now _ (sym
+          c.is_tail.ensures ∙ c.if-is_tail.true)).0 (tail_call c.args.recs.now _ (sym c.is_tail.ensures ∙ c.if-is_tail.true)).1 A) c.call.ensures) h2 in
+          given (ret_tail (lent c.args.recs.now c.args.notes.now) v c.args.r (ap (λ (x : ℕ). is_tail (own_tree (forest c.args.recs.now x))) (sym
+          c.first-argument.ensures) ∙ sym c.is_tail.ensures ∙ c.if-is_tail.true) A) (nulled c.args.r c.push_null.ensures h3);
     }
 
 pub ret-expr-requires : goal.ret-expr-requires
@@ -1276,7 +1433,8 @@ ret-returns t c =
           let h2 = (c.push_return_label.ensures _ _ c.args.r).moves v o₀ _ h1 in
           let h3 = visited z Expr c.first-argument.ensures c.expr.ensures h2 in
           let h4 = said c.args.r Return 0 refl refl c.push_return.ensures h3 in
-          given (ret_plain (lent c.args.recs.now c.args.notes.now) v c.args.r (ap (λ (x : ℕ). is_tail (own_tree (forest c.args.recs.now x))) (sym c.first-argument.ensures) ∙ sym c.is_tail.ensures ∙ c.if-is_tail.false) A) (nulled c.args.r c.push_null-2.ensures h4);
+          given (ret_plain (lent c.args.recs.now c.args.notes.now) v c.args.r (ap (λ (x : ℕ). is_tail (own_tree (forest c.args.recs.now x))) (sym
+          c.first-argument.ensures) ∙ sym c.is_tail.ensures ∙ c.if-is_tail.false) A) (nulled c.args.r c.push_null-2.ensures h4);
     }
 
 pub short-fetch-requires : goal.short-fetch-requires
@@ -1331,7 +1489,8 @@ target-returns-then-kind-ne-LEFT t c =
 pub target-returns-then-detail-eq-PLAIN : goal.target-returns-then-detail-eq-PLAIN
 unfolding does doing exec
 target-returns-then-detail-eq-PLAIN t c =
-    resim (λ v z A. target_plain (lent c.args.recs.now c.args.notes.now) v c.args.left c.if-left-eq0.false (sym c.kind.ensures ∙ c.if-kind-ne-LEFT.false) (sym c.detail.ensures ∙ c.if-detail-eq-PLAIN.true) A)
+    resim (λ v z A. target_plain (lent c.args.recs.now c.args.notes.now) v c.args.left c.if-left-eq0.false (sym c.kind.ensures ∙ c.if-kind-ne-LEFT.false) (sym
+    c.detail.ensures ∙ c.if-detail-eq-PLAIN.true) A)
     (record {
       sim = λ z v o₀ A h.
           used z c.args.left 0 Set c.first-ident.ensures c.store.ensures h;
@@ -1349,7 +1508,8 @@ target-returns t c =
           let h1 = used z c.args.left 0 Get c.first-ident.ensures c.load.ensures h in
           let h2 = propped z c.args.left (word c.args.recs.now c.args.left 1 - 1) c.left_property-property.ensures c.prop.ensures h1 in
           let h3 = was_set c.args.left (word c.args.recs.now c.args.left 1 - 1) c.left_property-property.ensures c.push_set.ensures h2 in
-          given (target_member (lent c.args.recs.now c.args.notes.now) v c.args.left c.if-left-eq0.false (sym c.kind.ensures ∙ c.if-kind-ne-LEFT.false) (λ e. c.if-detail-eq-PLAIN.false (c.detail.ensures ∙ e)) A) (used z c.args.left 0 Set c.first-ident.ensures c.store-2.ensures h3);
+          given (target_member (lent c.args.recs.now c.args.notes.now) v c.args.left c.if-left-eq0.false (sym c.kind.ensures ∙ c.if-kind-ne-LEFT.false) (λ e.
+          c.if-detail-eq-PLAIN.false (c.detail.ensures ∙ e)) A) (used z c.args.left 0 Set c.first-ident.ensures c.store-2.ensures h3);
     }
 
 pub unpack-expr-requires : goal.unpack-expr-requires
@@ -1404,7 +1564,8 @@ pub update-returns-then-is_short_assign : goal.update-returns-then-is_short_assi
 update-returns-then-is_short_assign t c =
     resim (λ v z A. short_run (lent c.args.recs.now c.args.notes.now) v c.args.r c.binary_operator-operator.ensures (sym (short_assign_lem (word
     c.args.recs.now c.args.r 1) c.binary_operator-operator.ensures (own_tree (children c.args.recs.now c.args.r))) ∙ ap (λ (x :
-    ℕ). short_assign c.binary_operator-operator.result (own_tree (forest c.args.recs.now x))) (sym c.first-left.ensures) ∙ sym c.is_short_assign.ensures ∙ c.if-is_short_assign.true) A) c.short.ensures
+    ℕ). short_assign c.binary_operator-operator.result (own_tree (forest c.args.recs.now x))) (sym c.first-left.ensures) ∙ sym c.is_short_assign.ensures ∙
+    c.if-is_short_assign.true) A) c.short.ensures
 
 pub update-fetch-requires : goal.update-fetch-requires
 update-fetch-requires t c =
@@ -1424,7 +1585,10 @@ update-returns t c =
           let h2 = visited z Expr (next_of c.args.recs.now c.next-right.ensures c.first-left.ensures) c.expr.ensures h1 in
           let h3 = operated (word c.args.recs.now c.args.r 1) c.binary_operator-operator.ensures c.args.r c.push_binary.ensures h2 in
           let h4 = visited z After c.first-left.ensures (c.after.ensures _) h3 in
-          given (update_run (lent c.args.recs.now c.args.notes.now) v c.args.r (sym (short_assign_lem (word c.args.recs.now c.args.r 1) c.binary_operator-operator.ensures (own_tree (children c.args.recs.now c.args.r))) ∙ ap (λ (x : ℕ). short_assign c.binary_operator-operator.result (own_tree (forest c.args.recs.now x))) (sym c.first-left.ensures) ∙ sym c.is_short_assign.ensures ∙ c.if-is_short_assign.false) A) (nulled c.args.r c.push_null.ensures h4);
+          given (update_run (lent c.args.recs.now c.args.notes.now) v c.args.r (sym (short_assign_lem (word c.args.recs.now c.args.r 1)
+          c.binary_operator-operator.ensures (own_tree (children c.args.recs.now c.args.r))) ∙ ap (λ (x : ℕ). short_assign c.binary_operator-operator.result
+          (own_tree (forest c.args.recs.now x))) (sym c.first-left.ensures) ∙ sym c.is_short_assign.ensures ∙ c.if-is_short_assign.false) A) (nulled c.args.r
+          c.push_null.ensures h4);
     }
 
 pub whilst-expr-requires : goal.whilst-expr-requires

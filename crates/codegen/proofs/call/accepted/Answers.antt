@@ -10,7 +10,8 @@ use Rattle.codegen.proofs.call.accepted.Goals as goal
 
 pub judge-requires : goal.judge-requires
 judge-requires c =
-    let noted = notes_made c.args.symbols.now c.args.references.now c.args.functions.now c.args.members.now c.args.recs.now c.requires.sound _ _ _ _ _ _ (length-replicate {A = ℕ} 3072 0) (length-replicate {A = ℕ} 1024 0) (blank_zeros (replicate 12288 0) refl) c.resolve.ensures in record {
+    let noted = notes_made c.args.symbols.now c.args.references.now c.args.functions.now c.args.members.now c.args.recs.now c.requires.sound _ _ _ _ _ _
+    (length-replicate {A = ℕ} 3072 0) (length-replicate {A = ℕ} 1024 0) (blank_zeros (replicate 12288 0) refl) c.resolve.ensures in record {
       walkable = walkable_of c.args.symbols.now c.args.references.now c.args.functions.now c.args.members.now c.args.recs.now c.requires.sound _
           noted;
       sized = length-replicate {A = ℕ} 144 0;
@@ -18,7 +19,8 @@ judge-requires c =
 
 pub returns-in-Refused : goal.returns-in-Refused
 returns-in-Refused c =
-    let noted = notes_made c.args.symbols.now c.args.references.now c.args.functions.now c.args.members.now c.args.recs.now c.requires.sound _ _ _ _ _ _ (length-replicate {A = ℕ} 3072 0) (length-replicate {A = ℕ} 1024 0) (blank_zeros (replicate 12288 0) refl) c.resolve.ensures in
+    let noted = notes_made c.args.symbols.now c.args.references.now c.args.functions.now c.args.members.now c.args.recs.now c.requires.sound _ _ _ _ _ _
+    (length-replicate {A = ℕ} 3072 0) (length-replicate {A = ℕ} 1024 0) (blank_zeros (replicate 12288 0) refl) c.resolve.ensures in
     refused_answered (semantic c.args.symbols.now c.args.references.now c.args.functions.now c.args.members.now) c.args.recs.now _ _
     _ _
     (flow_ran c.args.symbols.now c.args.references.now c.args.functions.now c.args.members.now c.args.recs.now c.requires.sound _ noted
@@ -26,19 +28,25 @@ returns-in-Refused c =
 
 pub listed-requires : goal.listed-requires
 listed-requires c =
-    let noted = notes_made c.args.symbols.now c.args.references.now c.args.functions.now c.args.members.now c.args.recs.now c.requires.sound _ _ _ _ _ _ (length-replicate {A = ℕ} 3072 0) (length-replicate {A = ℕ} 1024 0) (blank_zeros (replicate 12288 0) refl) c.resolve.ensures in
-    let named = names_made c.args.symbols.now c.args.references.now c.args.functions.now c.args.members.now c.args.recs.now c.requires.sound _ _ _ _ _ _ (length-replicate {A = ℕ} 3072 0) (length-replicate {A = ℕ} 1024 0) (blank_zeros (replicate 12288 0) refl) c.resolve.ensures in
-    let runs = runs_noted c.args.symbols.now c.args.references.now c.args.functions.now c.args.members.now c.args.recs.now c.requires.sound _ noted _ c.judge.ensures _ c.flow.ensures c.in_default.not-Refused in record {
+    let noted = notes_made c.args.symbols.now c.args.references.now c.args.functions.now c.args.members.now c.args.recs.now c.requires.sound _ _ _ _ _ _
+    (length-replicate {A = ℕ} 3072 0) (length-replicate {A = ℕ} 1024 0) (blank_zeros (replicate 12288 0) refl) c.resolve.ensures in
+    let named = names_made c.args.symbols.now c.args.references.now c.args.functions.now c.args.members.now c.args.recs.now c.requires.sound _ _ _ _ _ _
+    (length-replicate {A = ℕ} 3072 0) (length-replicate {A = ℕ} 1024 0) (blank_zeros (replicate 12288 0) refl) c.resolve.ensures in
+    let runs = runs_noted c.args.symbols.now c.args.references.now c.args.functions.now c.args.members.now c.args.recs.now c.requires.sound _ noted _ c.judge.ensures _
+    c.flow.ensures c.in_default.not-Refused in record {
       ready = ready_of c.args.symbols.now c.args.references.now c.args.functions.now c.args.members.now c.args.recs.now c.requires.sound _
           noted (λ j. omega (arith, c.type_inv.recs j)) runs;
       walked = c.judge.ensures;
-      listable = listable_of c.args.symbols.now c.args.references.now c.args.functions.now c.args.members.now c.args.recs.now c.requires.sound _ _ named _ _ _ _ _ c.requires.roomy _ noted;
+      listable = listable_of c.args.symbols.now c.args.references.now c.args.functions.now c.args.members.now c.args.recs.now c.requires.sound _ _ named _ _ _ _ _
+          c.requires.roomy _ noted;
     }
 
 pub returns : goal.returns
 returns c =
-    let noted = notes_made c.args.symbols.now c.args.references.now c.args.functions.now c.args.members.now c.args.recs.now c.requires.sound _ _ _ _ _ _ (length-replicate {A = ℕ} 3072 0) (length-replicate {A = ℕ} 1024 0) (blank_zeros (replicate 12288 0) refl) c.resolve.ensures in
-    let named = names_made c.args.symbols.now c.args.references.now c.args.functions.now c.args.members.now c.args.recs.now c.requires.sound _ _ _ _ _ _ (length-replicate {A = ℕ} 3072 0) (length-replicate {A = ℕ} 1024 0) (blank_zeros (replicate 12288 0) refl) c.resolve.ensures in
+    let noted = notes_made c.args.symbols.now c.args.references.now c.args.functions.now c.args.members.now c.args.recs.now c.requires.sound _ _ _ _ _ _
+    (length-replicate {A = ℕ} 3072 0) (length-replicate {A = ℕ} 1024 0) (blank_zeros (replicate 12288 0) refl) c.resolve.ensures in
+    let named = names_made c.args.symbols.now c.args.references.now c.args.functions.now c.args.members.now c.args.recs.now c.requires.sound _ _ _ _ _ _
+    (length-replicate {A = ℕ} 3072 0) (length-replicate {A = ℕ} 1024 0) (blank_zeros (replicate 12288 0) refl) c.resolve.ensures in
     listed_answered c.args.symbols.now c.args.references.now c.args.functions.now c.args.members.now c.args.recs.now c.requires.sound _
     _ named _ _ _ _ _ c.requires.roomy _ _
     (runs_ran c.args.symbols.now c.args.references.now c.args.functions.now c.args.members.now c.args.recs.now c.requires.sound _ noted

@@ -6,14 +6,40 @@ use Rattle.codegen.proofs.call.gen_code.Goals as goal
 pub returns-in-Refused : goal.returns-in-Refused
 unfolding written_of
 returns-in-Refused c =
-    record { answer = refused_answer c.args.strings.now c.args.bytes.now c.args.symbols.now c.args.references.now c.args.functions.now c.args.members.now c.args.records.now _ _ _ _ _ _ _ c.check.ensures c.in-Refused.is; markers = refl; constants = refl; names = refl; errors = refl; lines = refl; demand3 = tt }
+    record {
+      answer = refused_answer c.args.strings.now c.args.bytes.now c.args.symbols.now c.args.references.now c.args.functions.now c.args.members.now
+          c.args.records.now _ _ _ _ _ _ _ c.check.ensures c.in-Refused.is;
+      markers = refl;
+      constants = refl;
+      names = refl;
+      errors = refl;
+      lines = refl;
+      demand3 = tt;
+    }
 
 pub accepted-requires : goal.accepted-requires
 accepted-requires c =
-    record { sound = checked_sound c.args.strings.now c.args.bytes.now c.args.symbols.now c.args.references.now c.args.functions.now c.args.members.now c.args.records.now _ _ _ _ _ _ c.check.ensures c.in_default.is; roomy = checked_roomy c.args.strings.now c.args.bytes.now c.args.symbols.now c.args.references.now c.args.functions.now c.args.members.now c.args.records.now _ _ _ _ _ _ c.check.ensures c.in_default.is }
+    record {
+      sound = checked_sound c.args.strings.now c.args.bytes.now c.args.symbols.now c.args.references.now c.args.functions.now c.args.members.now
+          c.args.records.now _ _ _ _ _ _ c.check.ensures c.in_default.is;
+      roomy = checked_roomy c.args.strings.now c.args.bytes.now c.args.symbols.now
+          c.args.references.now c.args.functions.now c.args.members.now c.args.records.now _ _ _ _ _ _ c.check.ensures c.in_default.is;
+    }
 
 pub returns : goal.returns
 returns c =
     let w = c.accepted.ensures in
     let v = w.written in
-    let sound = checked_sound c.args.strings.now c.args.bytes.now c.args.symbols.now c.args.references.now c.args.functions.now c.args.members.now c.args.records.now _ _ _ _ _ _ c.check.ensures c.in_default.is in record { answer = w.answer ∙ run_answer c.args.strings.now c.args.bytes.now c.args.symbols.now c.args.references.now c.args.functions.now c.args.members.now c.args.records.now _ _ _ _ _ _ c.check.ensures c.in_default.is; markers = v.markers; constants = v.constants; names = v.names; errors = v.errors; lines = v.lines; demand3 = demanded c.args.symbols.now c.args.references.now c.args.functions.now c.args.members.now c.args.records.now sound _ _ _ w }
+    let sound = checked_sound c.args.strings.now c.args.bytes.now c.args.symbols.now c.args.references.now c.args.functions.now c.args.members.now c.args.records.now _
+    _ _ _ _ _ c.check.ensures c.in_default.is in record {
+      answer = w.answer ∙ run_answer c.args.strings.now c.args.bytes.now c.args.symbols.now
+          c.args.references.now c.args.functions.now c.args.members.now c.args.records.now _ _ _ _ _ _ c.check.ensures c.in_default.is;
+      markers = v.markers;
+      constants =
+          v.constants;
+      names = v.names;
+      errors = v.errors;
+      lines = v.lines;
+      demand3 = demanded c.args.symbols.now c.args.references.now c.args.functions.now
+          c.args.members.now c.args.records.now sound _ _ _ w;
+    }

@@ -38,7 +38,10 @@ bounds-table-next c =
 pub loop-r-preserved : goal.loop-r-preserved
 loop-r-preserved c =
     let l = c.loop-r in
-    let d : c.if-own-later.table ≡ max c.around-own.result (get_or l.table c.next.result 0) = elim c.if-own-later.branch [ then-own-later w ↦ omega arith | else-own-later w ↦ omega arith ] in (
+    let d : c.if-own-later.table ≡ max c.around-own.result (get_or l.table c.next.result 0) = elim c.if-own-later.branch [
+      | then-own-later w ↦ omega arith
+      | else-own-later w ↦ omega arith
+    ] in (
       step_more c.args.recs.now l.table l.r _ _ _ _ c.loop-r-test.true l.invariant.1 l.invariant.0 c.kind.ensures c.first.ensures c.next.ensures
           (d ∙ ap (λ (x : ℕ). max x (get_or l.table c.next.result 0)) c.around-own.ensures),
       omega (arith, l.invariant.1),

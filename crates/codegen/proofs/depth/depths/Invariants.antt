@@ -1,4 +1,4 @@
-use Prim.Native.Nat.{◌-◌, ◌≤◌}
+use Prim.Native.Nat.{◌≤◌}
 use Rattle.codegen.proofs.DepthLaws.{Done}
 use Rattle.tables.specs.Record.{size}
 use lib.ListN.{length}

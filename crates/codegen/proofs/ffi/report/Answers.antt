@@ -20,4 +20,8 @@ pub returns-in-Refused : goal.returns-in-Refused
 unfolding valued
 returns-in-Refused c =
     let e = c.in-Refused.is in
-    let ws = c.args.values.now in record { number = c.number.ensures ∙ sym (ap number_in e); values = c.put-in-Refused.ensures ∙ ap (λ (p : ℕ). cond (ltb 2 (length ws)) (over (p ∷ 0 ∷ 0 ∷ []) ws) ws) c.place.ensures ∙ sym (ap (λ (z : Answer). valued z ws) e) }
+    let ws = c.args.values.now in record {
+      number = c.number.ensures ∙ sym (ap number_in e);
+      values = c.put-in-Refused.ensures ∙ ap (λ (p : ℕ). cond (ltb 2 (length
+          ws)) (over (p ∷ 0 ∷ 0 ∷ []) ws) ws) c.place.ensures ∙ sym (ap (λ (z : Answer). valued z ws) e);
+    }

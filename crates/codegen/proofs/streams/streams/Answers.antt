@@ -1,4 +1,4 @@
-use Prim.Native.Nat.{◌-◌, ℕ}
+use Prim.Native.Nat.{ℕ}
 use Rattle.codegen.proofs.StreamsLaws.{going_next, going_start, going_turn}
 use Rattle.codegen.specs.Walks.{noted_run}
 use lib.ListN.{length-replicate}

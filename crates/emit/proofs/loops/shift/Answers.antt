@@ -1,4 +1,3 @@
-use Prim.Native.Nat.{◌-◌}
 use Rattle.emit.proofs.SinkLaws.{shift_one}
 use Rattle.emit.specs.Sinks.{shifted}
 use mathlib.Core.Path.{refl}

@@ -45,5 +45,6 @@ returns-in_default c = as_text nothing (const_none c.args.kind (above 8 c.args.k
     (above 6 c.args.kind (above 5 c.args.kind (above 4 c.args.kind (above 3
     c.args.kind (above 2 c.args.kind (above 1 c.args.kind (above 0 c.args.kind
     (omega arith) c.in_default.in_default-own.rest.0.0.0.0.0.0.0.0.1) c.in_default.in_default-own.rest.0.0.0.0.0.0.0.1) c.in_default.in_default-own.rest.0.0.0.0.0.0.1)
-    c.in_default.in_default-own.rest.0.0.0.0.0.1) c.in_default.in_default-own.rest.0.0.0.0.1) c.in_default.in_default-own.rest.0.0.0.1) c.in_default.in_default-own.rest.0.0.1) c.in_default.in_default-own.rest.0.1)
+    c.in_default.in_default-own.rest.0.0.0.0.0.1) c.in_default.in_default-own.rest.0.0.0.0.1) c.in_default.in_default-own.rest.0.0.0.1)
+    c.in_default.in_default-own.rest.0.0.1) c.in_default.in_default-own.rest.0.1)
     c.in_default.in_default-own.rest.1))

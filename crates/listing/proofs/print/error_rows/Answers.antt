@@ -1,5 +1,4 @@
 use mathlib.Core.Path.{◌∙◌}
-use Prim.Native.Nat.{◌-◌}
 use native.Mathlib.Omega.{arith}
 use Rattle.listing.proofs.PrintLaws.{rows_next, rows_done, as_text}
 use Rattle.listing.specs.Print.{error_at}

@@ -1,5 +1,4 @@
 use mathlib.Core.Path.{◌∙◌}
-use Prim.Native.Nat.{◌-◌}
 use native.Mathlib.Omega.{arith}
 use Rattle.listing.proofs.PrintLaws.{join, rest_same, rest_after, rest_last, rest_none, idents_none, idents_last, idents_more}
 use Rattle.listing.proofs.print.put_idents.Goals as goal

@@ -1,5 +1,4 @@
 use mathlib.Core.Path.{◌≡◌}
-use Prim.Native.Nat.{◌-◌}
 use lib.ListN.{length}
 use Rattle.tables.specs.Record.{size}
 use Rattle.listing.proofs.PrintLaws.{Rest}

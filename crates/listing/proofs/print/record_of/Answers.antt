@@ -1,5 +1,4 @@
 use mathlib.Core.Path.{sym, ◌∙◌}
-use Prim.Native.Nat.{◌-◌}
 use native.Mathlib.Omega.{arith}
 use Rattle.listing.proofs.PrintLaws.{record_start, record_hit, record_miss, record_none}
 use Rattle.listing.specs.Print.{record_of}

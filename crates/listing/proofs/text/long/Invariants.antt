@@ -1,5 +1,5 @@
 use mathlib.Core.Path.{◌≡◌}
-use Prim.Native.Nat.{◌-◌, ◌^◌, ◌≤◌, ◌<◌}
+use Prim.Native.Nat.{◌^◌, ◌≤◌, ◌<◌}
 use lib.ListN.{length}
 use Rattle.listing.specs.Print.{wrote, decimal}
 use Rattle.listing.proofs.PrintLaws.{Rest}

@@ -1,5 +1,4 @@
 use mathlib.Core.Path.{refl, sym, ◌∙◌}
-use Prim.Native.Nat.{◌-◌}
 use native.Mathlib.Omega.{arith}
 use Rattle.opcode.specs.Names.{name}
 use Rattle.listing.proofs.PrintLaws.{nothing, same, more, name_long, nameless}

@@ -1,4 +1,3 @@
-use Prim.Native.Nat.{◌-◌}
 use Rattle.pattern.proofs.TestLaws.{case_again, case_done, case_holds, case_short}
 use mathlib.Core.Path.{refl}
 use Rattle.pattern.proofs.cases.case_patterns.Goals as goal
@@ -13,7 +12,8 @@ returns-then-pattern-eq0 c =
 
 pub loop-i-preserved : goal.loop-i-preserved
 loop-i-preserved c =
-    case_again c.args.recs.now c.args.notes.now c.loop-i.invariant c.loop-i-test.true c.if-pattern-eq0.false c.test.ensures c.next-pattern.ensures refl c.test.auto.code c.test.auto.consts
+    case_again c.args.recs.now c.args.notes.now c.loop-i.invariant c.loop-i-test.true c.if-pattern-eq0.false c.test.ensures c.next-pattern.ensures refl
+    c.test.auto.code c.test.auto.consts
 
 pub returns : goal.returns
 returns c =

@@ -12,7 +12,8 @@ loop-case-smaller c =
 
 pub loop-case-preserved : goal.loop-case-preserved
 loop-case-preserved c =
-    cases_again c.args.recs.now c.args.notes.now c.loop-case.invariant c.loop-case-test.true c.case_patterns.ensures c.next-case.ensures c.next_label-label.ensures c.case_patterns.auto.code
+    cases_again c.args.recs.now c.args.notes.now c.loop-case.invariant c.loop-case-test.true c.case_patterns.ensures c.next-case.ensures c.next_label-label.ensures
+    c.case_patterns.auto.code
     c.case_patterns.auto.consts
 
 pub returns : goal.returns

@@ -22,7 +22,8 @@ list-loop-item-preserved t c =
 
 pub list-returns : goal.list-returns
 list-returns t c =
-    list_visits c.args.recs.now c.args.notes.now c.first-item.ensures c.width.ensures c.inc-inside.ensures c.deepened-taken.ensures c.clean_stack_label-clean_stack_label.ensures c.push_table_test.ensures
+    list_visits c.args.recs.now c.args.notes.now c.first-item.ensures c.width.ensures c.inc-inside.ensures c.deepened-taken.ensures
+    c.clean_stack_label-clean_stack_label.ensures c.push_table_test.ensures
     c.capped-items.ensures c.loop-item.invariant c.loop-item-test.false c.push_pop.ensures
 
 pub table-loop-key-init : goal.table-loop-key-init
@@ -46,13 +47,15 @@ pub table-loop-key-preserved : goal.table-loop-key-preserved
 table-loop-key-preserved t c =
     record {
       i = suc (suc c.loop-key.invariant.i);
-      turn = turn_pair c.args.recs.now c.args.notes.now c.loop-key.invariant.turn c.loop-key-test.true c.next-value.ensures c.push_value.ensures c.visit_pattern_depth-taken.ensures
+      turn = turn_pair c.args.recs.now c.args.notes.now c.loop-key.invariant.turn c.loop-key-test.true c.next-value.ensures c.push_value.ensures
+          c.visit_pattern_depth-taken.ensures
           c.next-key.ensures (c.visit_pattern_depth-taken.auto.code ∙ c.push_value.auto.code) (c.visit_pattern_depth-taken.auto.consts ∙ c.push_value.auto.consts);
     }
 
 pub table-returns : goal.table-returns
 table-returns t c =
-    table_visits c.args.recs.now c.args.notes.now c.first-key.ensures c.width.ensures c.inc-inside.ensures c.deepened-taken.ensures c.clean_stack_label-clean_stack_label.ensures c.push_table_test.ensures
+    table_visits c.args.recs.now c.args.notes.now c.first-key.ensures c.width.ensures c.inc-inside.ensures c.deepened-taken.ensures
+    c.clean_stack_label-clean_stack_label.ensures c.push_table_test.ensures
     c.capped-pairs.ensures c.loop-key.invariant.turn c.loop-key-test.false c.push_pop.ensures
 
 pub visit_pattern_depth-returns-then-pattern-eq0 : goal.visit_pattern_depth-returns-then-pattern-eq0
@@ -74,5 +77,6 @@ visit_pattern_depth-returns-in-36 t c =
 pub visit_pattern_depth-returns-in_default : goal.visit_pattern_depth-returns-in_default
 visit_pattern_depth-returns-in_default t c =
     let k = c.in_default.in_default-own.rest in
-    visit_lit c.args.recs.now c.args.notes.now c.if-pattern-eq0.false c.clean_stack_label-next_pattern_label.ensures (λ z. k.0.0.1 (c.kind.ensures ∙ z)) (λ z. k.0.1 (c.kind.ensures ∙ z))
+    visit_lit c.args.recs.now c.args.notes.now c.if-pattern-eq0.false c.clean_stack_label-next_pattern_label.ensures (λ z. k.0.0.1 (c.kind.ensures ∙ z)) (λ z. k.0.1
+    (c.kind.ensures ∙ z))
     (λ z. k.1 (c.kind.ensures ∙ z)) c.lit.ensures

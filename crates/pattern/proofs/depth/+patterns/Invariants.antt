@@ -15,7 +15,8 @@ decreases-visit_pattern_depth l = visit_rank l.recs.now l.pattern
 
 abbrev pub invariant-list-loop-item : goal.invariant-list-loop-item
 invariant-list-loop-item l =
-    Turn l.recs l.notes item_part l.pattern l.inside (outs l.initial.code l.initial.consts) l.initial.frame l.initial.item l.initial.taken (outs l.code l.consts) l.frame l.item l.i l.taken
+    Turn l.recs l.notes item_part l.pattern l.inside (outs l.initial.code l.initial.consts) l.initial.frame l.initial.item l.initial.taken (outs l.code l.consts)
+    l.frame l.item l.i l.taken
 
 abbrev pub decreases-list-loop-item : goal.decreases-list-loop-item
 decreases-list-loop-item l =

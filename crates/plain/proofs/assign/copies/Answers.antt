@@ -1,4 +1,3 @@
-use Prim.Native.Nat.{◌-◌}
 use Rattle.plain.proofs.LoopLaws.{copying_again, copying_end}
 use Rattle.plain.proofs.assign.copies.Goals as goal
 

@@ -16,7 +16,8 @@ returns-then-is_meta c =
       moves = λ m o₀ A h.
           let h1 = said r Swap 2 refl refl c.push_swap.ensures h in
           given (ap (λ (b : Bool). emit (mark r (Do (set_code (member_number c.args.property)) 0)) (emit (mark r (Do Swap 2)) (cond b A (emit (mark r (Do Swap
-          3)) A)))) (sym c.is_meta.ensures ∙ c.if-is_meta.true)) (said r (set_code (member_number c.args.property)) 0 refl refl (push_as (set_own c.args.property) c.push_set.ensures) h1);
+          3)) A)))) (sym c.is_meta.ensures ∙ c.if-is_meta.true)) (said r (set_code (member_number c.args.property)) 0 refl refl (push_as (set_own c.args.property)
+          c.push_set.ensures) h1);
     }
 
 pub returns : goal.returns
@@ -26,5 +27,6 @@ returns c =
           let h1 = said r Swap 3 refl refl c.push_swap-2.ensures h in
           let h2 = said r Swap 2 refl refl c.push_swap-3.ensures h1 in
           given (ap (λ (b : Bool). emit (mark r (Do (set_code (member_number c.args.property)) 0)) (emit (mark r (Do Swap 2)) (cond b A (emit (mark r (Do Swap
-          3)) A)))) (sym c.is_meta.ensures ∙ c.if-is_meta.false)) (said r (set_code (member_number c.args.property)) 0 refl refl (push_as (set_own c.args.property) c.push_set-2.ensures) h2);
+          3)) A)))) (sym c.is_meta.ensures ∙ c.if-is_meta.false)) (said r (set_code (member_number c.args.property)) 0 refl refl (push_as (set_own c.args.property)
+          c.push_set-2.ensures) h2);
     }

@@ -11,4 +11,5 @@ returns-then-kind-ne-CALL c =
 
 pub returns : goal.returns
 returns c =
-    tail_by c.args.recs.now c.args.argument _ _ c.if-argument-eq0.false c.kind.ensures c.if-kind-ne-CALL.false c.first-callee.ensures _ _ _ c.next-arguments.ensures c.arguments_len-n.ensures c.nth.ensures
+    tail_by c.args.recs.now c.args.argument _ _ c.if-argument-eq0.false c.kind.ensures c.if-kind-ne-CALL.false c.first-callee.ensures _ _ _ c.next-arguments.ensures
+    c.arguments_len-n.ensures c.nth.ensures

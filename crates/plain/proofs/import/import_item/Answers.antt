@@ -19,7 +19,8 @@ unfolding does doing exec
 returns c =
     record {
       sim = λ z m o₀ A h.
-          let h1 = str_loaded (number_of (spot_at (tree c.args.item (words c.args.recs.now c.args.item) (children c.args.recs.now c.args.item) none) (0 ∷ []))) ImportFrom _ (c.name_of.ensures ∙ ap (λ (l : ℕ). (child (own_tree (forest c.args.recs.now l)) 0).q) c.first-name.ensures) c.push_import_from.ensures h in
+          let h1 = str_loaded (number_of (spot_at (tree c.args.item (words c.args.recs.now c.args.item) (children c.args.recs.now c.args.item) none) (0 ∷ [])))
+          ImportFrom _ (c.name_of.ensures ∙ ap (λ (l : ℕ). (child (own_tree (forest c.args.recs.now l)) 0).q) c.first-name.ensures) c.push_import_from.ensures h in
           used_child (lent c.args.recs.now c.args.notes.now) c.args.item Set (cond (eqb (word c.args.recs.now c.args.item 1) 1) 1
           0) (c.alias.ensures ∙ ap (nth c.args.recs.now (cond (eqb (word c.args.recs.now c.args.item 1) 1) 1 0)) c.first-name.ensures)
           c.store.ensures h1;

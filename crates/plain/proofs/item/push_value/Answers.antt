@@ -9,6 +9,7 @@ pub returns : goal.returns
 returns c =
     record {
       moves = λ r q. record {
-        moves = λ m o₀ A h. said r GetItem 0 refl refl c.push_get_item.ensures (lit_loaded q (word c.args.recs.now c.args.key 1) (word c.args.recs.now c.args.key 2) (word c.args.recs.now c.args.key 3) c.push_lit.ensures (said r Copy 1 refl refl c.push_copy.ensures h));
+        moves = λ m o₀ A h. said r GetItem 0 refl refl c.push_get_item.ensures (lit_loaded q (word c.args.recs.now c.args.key 1) (word c.args.recs.now c.args.key 2)
+            (word c.args.recs.now c.args.key 3) c.push_lit.ensures (said r Copy 1 refl refl c.push_copy.ensures h));
       };
     }

@@ -1,4 +1,3 @@
-use Prim.Native.Nat.{◌-◌}
 use Rattle.emit.specs.Rep.{lent}
 use Rattle.plain.proofs.LoopLaws.{giving_again, giving_end, giving_start, item_puts}
 use mathlib.Core.Path.{◌∙◌}
@@ -10,7 +9,8 @@ loop-i-init c =
 
 pub loop-i-preserved : goal.loop-i-preserved
 loop-i-preserved c =
-    giving_again (lent c.args.recs.now c.args.notes.now) c.loop-i.invariant c.loop-i-test.true c.next-at.ensures (λ r. item_puts (lent c.args.recs.now c.args.notes.now) r _ c.push_item.ensures c.store.ensures) (c.store.auto.code ∙ c.push_item.auto.code) c.push_item.auto.consts
+    giving_again (lent c.args.recs.now c.args.notes.now) c.loop-i.invariant c.loop-i-test.true c.next-at.ensures (λ r. item_puts (lent c.args.recs.now
+    c.args.notes.now) r _ c.push_item.ensures c.store.ensures) (c.store.auto.code ∙ c.push_item.auto.code) c.push_item.auto.consts
 
 pub returns : goal.returns
 returns c =

@@ -28,4 +28,5 @@ returns-in-DotMeta c =
 
 pub returns-in_default : goal.returns-in_default
 returns-in_default c =
-    method_by (words c.args.recs.now c.args.callee) _ c.kind.ensures c.if-kind-ne-MEMBER.false c.property_of-property.ensures (neither c.property_of-property.result c.in_default.not-Dot c.in_default.not-DotMeta)
+    method_by (words c.args.recs.now c.args.callee) _ c.kind.ensures c.if-kind-ne-MEMBER.false c.property_of-property.ensures (neither c.property_of-property.result
+    c.in_default.not-Dot c.in_default.not-DotMeta)

@@ -14,4 +14,5 @@ returns-then-detail-ne-PLAIN c =
 
 pub returns : goal.returns
 returns c =
-    short_plain _ _ (sym (field_present c.args.recs.now (λ (w : Words). w.detail) c.args.left _ c.if-left-eq0.false c.detail.ensures) ∙ c.if-detail-ne-PLAIN.false) c.is_short-2.ensures
+    short_plain _ _ (sym (field_present c.args.recs.now (λ (w : Words). w.detail) c.args.left _ c.if-left-eq0.false c.detail.ensures) ∙ c.if-detail-ne-PLAIN.false)
+    c.is_short-2.ensures

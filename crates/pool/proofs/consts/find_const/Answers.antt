@@ -1,6 +1,5 @@
 use mathlib.Core.Path.{sym, ◌∙◌}
 use native.Mathlib.Omega.{arith}
-use Prim.Native.Nat.{◌-◌}
 use Rattle.pool.proofs.SearchLaws.{sought_hit, sought_miss, sought_end, sought_past}
 use Rattle.pool.proofs.consts.find_const.Goals as goal
 

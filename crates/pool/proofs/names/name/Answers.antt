@@ -36,7 +36,8 @@ overflow_cast-end c =
 pub returns-then-share-le1024 : goal.returns-then-share-le1024
 returns-then-share-le1024 c =
     record {
-      words = all_laid (class_in c.args.symbols.now c.args.scope.now) c.args.share.now c.args.entries.now _ _ _ _ _ _ _ c.pass-globals.ensures.words c.pass-globals.ensures.place c.pass-upvalues.ensures.words c.pass-upvalues.ensures.place c.pass-end.ensures.words
+      words = all_laid (class_in c.args.symbols.now c.args.scope.now) c.args.share.now c.args.entries.now _ _ _ _ _ _ _ c.pass-globals.ensures.words
+          c.pass-globals.ensures.place c.pass-upvalues.ensures.words c.pass-upvalues.ensures.place c.pass-end.ensures.words
           c.pass-end.ensures.place c.if-share-le1024.true
           ∙ ap (λ (s : Span). entries_named (class_in c.args.symbols.now c.args.scope.now) c.args.share.now c.args.entries.now s.start) c.span_of-start.ensures;
       span = span_laid (class_in c.args.symbols.now c.args.scope.now) c.args.share.now c.args.entries.now _ _ _ _ _ _ _ c.pass-globals.ensures.words
@@ -46,4 +47,5 @@ returns-then-share-le1024 c =
 
 pub returns-else-share-le1024 : goal.returns-else-share-le1024
 returns-else-share-le1024 c =
-    let both = none_laid (class_in c.args.symbols.now c.args.scope.now) c.args.share.now c.args.entries.now c.args.spans.now _ c.args.f c.if-share-le1024.false in record { words = both.0; span = both.1 }
+    let both = none_laid (class_in c.args.symbols.now c.args.scope.now) c.args.share.now c.args.entries.now c.args.spans.now _ c.args.f c.if-share-le1024.false in
+    record { words = both.0; span = both.1 }

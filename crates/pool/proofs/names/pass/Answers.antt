@@ -1,4 +1,3 @@
-use Prim.Native.Nat.{◌-◌}
 use Rattle.pool.proofs.NameTables.{pass_more, pass_most, pass_start}
 use Rattle.pool.specs.NameSteps.{class_in}
 use mathlib.Core.Path.{◌∙◌, refl}
@@ -24,5 +23,6 @@ pub loop-i-preserved : goal.loop-i-preserved
 loop-i-preserved c = (
   omega arith,
   c.step-at.auto.entries ∙ c.loop-i.invariant.1,
-  pass_more c.args.table (class_in c.args.symbols.now c.args.scope.now) c.args.share.now c.args.entries.now c.args.n _ _ _ _ _ c.loop-i-test.true c.loop-i.invariant.2 c.step-at.ensures.words c.step-at.ensures.place,
+  pass_more c.args.table (class_in c.args.symbols.now c.args.scope.now) c.args.share.now c.args.entries.now c.args.n _ _ _ _ _ c.loop-i-test.true c.loop-i.invariant.2
+      c.step-at.ensures.words c.step-at.ensures.place,
 )

@@ -1,4 +1,3 @@
-use Prim.Native.Nat.{◌-◌}
 use Rattle.pool.proofs.StampLaws.{stamp_more, stamp_start}
 use native.Mathlib.Omega.{arith}
 use Rattle.pool.proofs.names.stamp_table.Goals as goal
@@ -10,5 +9,6 @@ loop-i-init c =
 pub loop-i-preserved : goal.loop-i-preserved
 loop-i-preserved c = (
   omega arith,
-  stamp_more c.args.scope.now c.loop-i.scope _ c.args.entries.now c.args.table c.args.n c.args.count c.loop-i.i _ c.loop-i-test.true c.loop-i.invariant.0 c.loop-i.invariant.1 c.entry.ensures c.stamp.ensures,
+  stamp_more c.args.scope.now c.loop-i.scope _ c.args.entries.now c.args.table c.args.n c.args.count c.loop-i.i _ c.loop-i-test.true c.loop-i.invariant.0
+      c.loop-i.invariant.1 c.entry.ensures c.stamp.ensures,
 )

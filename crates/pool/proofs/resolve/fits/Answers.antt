@@ -52,4 +52,5 @@ returns c =
       arith,
       c.pairs-n.ensures,
       c.if-n-gt256.false,
-    )) c.if-size-gt1024.false (omega (arith, c.if-entries-size.false)) (omega (arith, c.pairs-n.ensures, c.if-spans-n.false)) _ _ c.pairs-n.ensures c.share_start.ensures c.if-share_start-size.false
+    )) c.if-size-gt1024.false (omega (arith, c.if-entries-size.false)) (omega (arith, c.pairs-n.ensures, c.if-spans-n.false)) _ _ c.pairs-n.ensures
+    c.share_start.ensures c.if-share_start-size.false

@@ -1,4 +1,3 @@
-use Prim.Native.Nat.{◌-◌}
 use Rattle.pool.proofs.FunctionPass.{begin_first, begin_most, begin_next}
 use native.Mathlib.Omega.{arith}
 use Rattle.pool.proofs.resolve.functions_inside.Goals as goal
@@ -12,11 +11,16 @@ overflow_add-start c =
     omega (
       arith,
       c.member_count-start.ensures,
-      begin_most c.args.functions.now c.args.spans.now c.args.scope.now c.requires.functions_bound c.requires.functions_bound_2 c.loop-f.f c.loop-f.start _ _ (omega (arith, c.loop-f.invariant.0, c.loop-f-test.true)) c.loop-f.invariant.1,
+      begin_most c.args.functions.now c.args.spans.now c.args.scope.now c.requires.few_functions c.requires.few_members c.loop-f.f c.loop-f.start _ _ (omega (
+        arith,
+        c.loop-f.invariant.0,
+        c.loop-f-test.true,
+      )) c.loop-f.invariant.1,
     )
 
 pub loop-f-preserved : goal.loop-f-preserved
 loop-f-preserved c = (
   c.loop-f.invariant.0,
-  begin_next c.args.functions.now c.args.spans.now c.args.scope.now c.requires.functions_bound c.loop-f.f c.loop-f.start c.loop-f.spans c.loop-f.scope _ _ _ _ (omega (arith, c.loop-f.invariant.0, c.loop-f-test.true)) c.loop-f.invariant.1 c.put_span.ensures c.parent_owner.ensures c.chain_inner.ensures c.member_count-start.ensures,
+  begin_next c.args.functions.now c.args.spans.now c.args.scope.now c.requires.few_functions c.loop-f.f c.loop-f.start c.loop-f.spans c.loop-f.scope _ _ _ _ (omega
+      (arith, c.loop-f.invariant.0, c.loop-f-test.true)) c.loop-f.invariant.1 c.put_span.ensures c.parent_owner.ensures c.chain_inner.ensures c.member_count-start.ensures,
 )

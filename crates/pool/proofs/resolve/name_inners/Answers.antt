@@ -20,5 +20,7 @@ pub loop-inner-preserved : goal.loop-inner-preserved
 loop-inner-preserved c = (
   c.name.auto.entries ∙ c.loop-inner.invariant.0,
   c.name.auto.spans ∙ c.loop-inner.invariant.1,
-  naming_next c.args.symbols.now c.args.functions.now c.args.members.now c.args.scope.now c.args.entries.now c.args.spans.now c.loop-inner.inner _ c.loop-inner.entries c.loop-inner.spans _ _ _ (omega (arith, c.loop-inner-test.true)) c.loop-inner.invariant.2 c.share_of-share.ensures c.name.ensures.words c.name.ensures.span c.next_inner-inner.ensures,
+  naming_next c.args.symbols.now c.args.functions.now c.args.members.now c.args.scope.now c.args.entries.now c.args.spans.now c.loop-inner.inner _ c.loop-inner.entries
+      c.loop-inner.spans _ _ _ (omega (arith, c.loop-inner-test.true)) c.loop-inner.invariant.2 c.share_of-share.ensures c.name.ensures.words c.name.ensures.span
+      c.next_inner-inner.ensures,
 )

@@ -5,7 +5,8 @@ use Rattle.pool.proofs.resolve.name_inners.Given as goal
 
 abbrev pub invariant-loop-inner : goal.invariant-loop-inner
 invariant-loop-inner l =
-    (length l.entries ≡ length l.initial.entries) × (length l.spans ≡ length l.initial.spans) × Naming l.symbols l.functions l.members l.scope l.initial.entries l.initial.spans l.inner l.entries l.spans
+    (length l.entries ≡ length l.initial.entries) × (length l.spans ≡ length l.initial.spans) × Naming l.symbols l.functions l.members l.scope l.initial.entries
+    l.initial.spans l.inner l.entries l.spans
 
 abbrev pub decreases-loop-inner : goal.decreases-loop-inner
 decreases-loop-inner l =

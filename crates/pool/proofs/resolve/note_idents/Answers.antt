@@ -14,7 +14,10 @@ loop-r-smaller c =
 
 pub loop-r-preserved : goal.loop-r-preserved
 loop-r-preserved c =
-    noting_next c.args.recs.now c.args.symbols.now c.args.references.now c.args.scope.now c.args.notes.now c.loop-r.r _ c.loop-r.notes _ _ _ _ (omega (arith, c.loop-r-test.true)) c.loop-r.invariant c.p-reference.ensures c.load.ensures c.store.ensures c.note_ident.ensures c.next_ident-r.ensures
+    noting_next c.args.recs.now c.args.symbols.now c.args.references.now c.args.scope.now c.args.notes.now c.loop-r.r _ c.loop-r.notes _ _ _ _ (omega (
+      arith,
+      c.loop-r-test.true,
+    )) c.loop-r.invariant c.p-reference.ensures c.load.ensures c.store.ensures c.note_ident.ensures c.next_ident-r.ensures
 
 pub returns : goal.returns
 returns c =

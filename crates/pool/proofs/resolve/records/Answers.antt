@@ -1,4 +1,4 @@
-use Prim.Native.Nat.{◌-◌, ℕ}
+use Prim.Native.Nat.{ℕ}
 use Rattle.pool.proofs.RecordPass.{pass_begin, pass_done, pass_next}
 use Rattle.pool.specs.Scope.{chained, idents}
 use mathlib.Core.Logic.{inl, inr}
@@ -15,7 +15,8 @@ pub loop-r-preserved : goal.loop-r-preserved
 loop-r-preserved c = (
   c.loop-r.invariant.0,
   c.loop-r.invariant.1,
-  pass_next c.args.recs.now c.args.notes.now c.args.scope.now (omega (arith, c.loop-r.invariant.0, c.loop-r.invariant.1)) c.loop-r.r c.loop-r.notes c.loop-r.scope c.loop-r.owners _ _ _ _ _ _ _ _ (omega (arith, c.loop-r.invariant.0, c.loop-r-test.true))
+  pass_next c.args.recs.now c.args.notes.now c.args.scope.now (omega (arith, c.loop-r.invariant.0, c.loop-r.invariant.1)) c.loop-r.r c.loop-r.notes c.loop-r.scope
+      c.loop-r.owners _ _ _ _ _ _ _ _ (omega (arith, c.loop-r.invariant.0, c.loop-r-test.true))
       c.loop-r.invariant.2 c.first-child.ensures c.next-sibling.ensures refl c.owner_inside.ensures c.own.ensures c.own-in-loop-r.ensures c.note_earlier.ensures
       (elim c.if-is_ident.branch [
         | then-is_ident w ↦ inl (

@@ -1,4 +1,3 @@
-use Prim.Native.Nat.{◌-◌}
 use Rattle.tables.proofs.RowLaws.{row_at, row_on, row_end}
 use Rattle.tables.specs.Children.{right_children}
 use borrow.Author.Rules.{rules}

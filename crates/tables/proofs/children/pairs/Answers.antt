@@ -22,7 +22,8 @@ loop-key-smaller c =
 pub loop-key-preserved : goal.loop-key-preserved
 loop-key-preserved c =
     λ ws. c.loop-key.invariant ws
-    ∙ took_pair _ _ _ c.next-other.ensures _ c.next-at.ensures _ _ (sym c.heads.ensures ∙ c.loop-key-test.true) (sym c.heads-in-loop-key.ensures ∙ not-false _ (ap not c.if-not-heads.false)) ws
+    ∙ took_pair _ _ _ c.next-other.ensures _ c.next-at.ensures _ _ (sym c.heads.ensures ∙ c.loop-key-test.true) (sym c.heads-in-loop-key.ensures ∙ not-false _ (ap not
+    c.if-not-heads.false)) ws
 
 pub returns : goal.returns
 returns c =

@@ -1,4 +1,3 @@
-use Prim.Native.Nat.{◌-◌}
 use Rattle.tables.specs.Links.{right_links}
 use Rattle.tables.proofs.RowLaws.{row_at, row_on, row_end}
 use borrow.Author.Rules.{rules}

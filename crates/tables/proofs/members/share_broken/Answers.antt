@@ -1,5 +1,4 @@
 use mathlib.Core.Path.{◌≡◌, sym, subst, ◌∙◌}
-use Prim.Native.Nat.{◌-◌}
 use native.Mathlib.Omega.{arith}
 use Rattle.tables.specs.Entries.{member_bad}
 use Rattle.tables.specs.Seen.{symbol_at, Stamped}

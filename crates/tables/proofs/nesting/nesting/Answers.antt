@@ -1,5 +1,5 @@
 use mathlib.Core.Path.{◌≡◌, sym, subst, ◌∙◌}
-use Prim.Native.Nat.{◌+◌, ◌-◌, min}
+use Prim.Native.Nat.{◌+◌, min}
 use native.Mathlib.Omega.{arith}
 use lib.ListN.{get_or}
 use Rattle.tables.specs.Naming.{Joined}

@@ -1,5 +1,4 @@
 use mathlib.Core.Path.{refl}
-use Prim.Native.Nat.{◌-◌}
 use native.Mathlib.Omega.{arith}
 use Rattle.tables.proofs.HandLaws.{handed_more}
 use Rattle.tables.proofs.numbering.parents.Goals as goal

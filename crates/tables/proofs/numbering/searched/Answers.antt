@@ -1,5 +1,4 @@
 use mathlib.Core.Path.{sym, ◌∙◌}
-use Prim.Native.Nat.{◌-◌}
 use native.Mathlib.Omega.{arith}
 use Rattle.tables.specs.Counting.{found}
 use Rattle.tables.proofs.PlaceLaws.{rest_on, rest_at, rest_end}

@@ -1,5 +1,5 @@
 use mathlib.Core.Path.{◌≡◌, ap, ◌∙◌}
-use Prim.Native.Nat.{ℕ, ◌-◌, ◌^◌, min}
+use Prim.Native.Nat.{ℕ, ◌^◌, min}
 use native.Mathlib.Omega.{arith}
 use Rattle.tables.specs.Semantic.{pairs, share_start}
 use Rattle.tables.proofs.SemanticLaws.{start_zero, start_next, start_last}

@@ -1,5 +1,4 @@
 use mathlib.Core.Path.{sym, ap, ◌∙◌}
-use Prim.Native.Nat.{◌-◌}
 use native.Mathlib.Omega.{arith}
 use Rattle.tables.specs.Entries.{found, equal_earlier}
 use Rattle.tables.proofs.EntriesLaws.{go_on, stop_at, ended}

@@ -1,5 +1,4 @@
 use mathlib.Core.Path.{sym, ◌∙◌}
-use Prim.Native.Nat.{◌-◌}
 use native.Mathlib.Omega.{arith}
 use Rattle.tables.proofs.SeenLaws.{hash_next, hash_end}
 use Rattle.tables.proofs.strings.hash.Goals as goal

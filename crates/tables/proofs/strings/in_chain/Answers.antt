@@ -5,25 +5,25 @@ use Rattle.tables.proofs.strings.in_chain.Goals as goal
 pub loop-c-init : goal.loop-c-init
 loop-c-init c =
     let a = c.args in
-    walk_start a.strings.now a.bytes.now a.s a.hashes.now a.heads.now a.next.now a.h c.requires.fact_2 c.requires.fact_3 _ _
+    walk_start a.strings.now a.bytes.now a.s a.hashes.now a.heads.now a.next.now a.h c.requires.hashed c.requires.chained _ _
     c.bucket-b.ensures c.wide-c.ensures
 
 pub returns-then-same_hashed : goal.returns-then-same_hashed
 returns-then-same_hashed c =
     let a = c.args in
-    walk_hit a.strings.now a.bytes.now a.s a.hashes.now a.heads.now a.next.now a.h c.requires.fact_2 c.requires.fact_3
+    walk_hit a.strings.now a.bytes.now a.s a.hashes.now a.heads.now a.next.now a.h c.requires.hashed c.requires.chained
     c.loop-c.c _ c.loop-c.invariant (omega arith) _ c.same_hashed.ensures c.if-same_hashed.true
 
 pub loop-c-smaller : goal.loop-c-smaller
 loop-c-smaller c =
     let a = c.args in
-    walk_less a.strings.now a.bytes.now a.s a.hashes.now a.heads.now a.next.now a.h c.requires.fact_2 c.requires.fact_3
+    walk_less a.strings.now a.bytes.now a.s a.hashes.now a.heads.now a.next.now a.h c.requires.hashed c.requires.chained
     c.loop-c.c _ c.loop-c.invariant (omega arith) _ c.wide-c-in-loop-c.ensures
 
 pub loop-c-preserved : goal.loop-c-preserved
 loop-c-preserved c =
     let a = c.args in
-    walk_on a.strings.now a.bytes.now a.s a.hashes.now a.heads.now a.next.now a.h c.requires.fact_2 c.requires.fact_3
+    walk_on a.strings.now a.bytes.now a.s a.hashes.now a.heads.now a.next.now a.h c.requires.hashed c.requires.chained
     c.loop-c.c _ c.loop-c.invariant (omega arith) _ c.same_hashed.ensures c.if-same_hashed.false _ c.wide-c-in-loop-c.ensures
 
 pub returns : goal.returns

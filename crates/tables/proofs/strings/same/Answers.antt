@@ -1,4 +1,3 @@
-use Prim.Native.Nat.{◌-◌}
 use Rattle.tables.proofs.EntriesLaws.{same_lengths}
 use Rattle.tables.proofs.strings.same.Goals as goal
 
