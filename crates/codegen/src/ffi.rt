@@ -1,4 +1,4 @@
-// The call for C and Rust: a slice is a pointer and a length, an answer a number and three values.
+// The call for C and Rust in plain numbers: an answer is a number and three values. `codegen_c` exports it.
 ghost use Rattle.std.specs.Prelude.{◌≡◌, cond, [], ◌∷◌, length, ltb};
 ghost use Rattle.pool.specs.Names.{semantic};
 ghost use Rattle.pool.specs.NameWords.{over};
@@ -40,8 +40,7 @@ fn report(values: &mut [u64], a: Answer) -> u32
 }
 
 // The number is 0 for a listing, whose values are its lines, errors and forecast; else it is the refusal's, whose values are its place and two zeros.
-#[unsafe(no_mangle)]
-pub extern "C" fn lucia_gen_code(
+pub fn lucia_gen_code(
     strings: &[u32],
     bytes: &[u8],
     symbols: &[u32],
