@@ -1,9 +1,12 @@
 // Prints numbers of 64 bits, given in 16 hexadecimal digits a line: in decimal, as an Int, and as a Float's digits.
 #![tactic(auto)]
 
-use libc::{STDIN_FILENO, STDOUT_FILENO};
 use listing::read::nibble;
 use listing::text::{hex16, number, put, signed};
+
+const STDIN_FILENO: i32 = 0;
+
+const STDOUT_FILENO: i32 = 1;
 
 // A word with one more hexadecimal digit; as it was where there is no digit or no room.
 fn with_digit(word: u32, b: u8) -> u32 {

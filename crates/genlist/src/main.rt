@@ -1,9 +1,14 @@
 // genlist: the text of the tables on standard input; its listing, refusal or `input` on standard output.
 #![tactic(auto)]
 
-use libc::{STDERR_FILENO, STDIN_FILENO, STDOUT_FILENO};
 use lister::fronts::front_bytes;
 use lister::list::list_all;
+
+const STDIN_FILENO: i32 = 0;
+
+const STDOUT_FILENO: i32 = 1;
+
+const STDERR_FILENO: i32 = 2;
 
 fn write(out: &[u8; 1048576], printed: usize) {
     if !io::write_all(STDOUT_FILENO, front_bytes(out, printed)) {

@@ -1,9 +1,12 @@
 // Replays texts through genlist's work, one after another between lines `====`: prints the answer to each, with the same line between.
 #![tactic(auto)]
 
-use libc::{STDIN_FILENO, STDOUT_FILENO};
 use lister::fronts::front_bytes;
 use lister::list::list_all;
+
+const STDIN_FILENO: i32 = 0;
+
+const STDOUT_FILENO: i32 = 1;
 
 fn write(out: &[u8; 1048576], printed: usize) {
     io::write_all(STDOUT_FILENO, front_bytes(out, printed));

@@ -1,8 +1,11 @@
 // Replays genlist's texts, one after another between lines `====`: prints the line that can't be read, or the words of the tables.
 #![tactic(auto)]
 
-use libc::{STDIN_FILENO, STDOUT_FILENO};
 use listing::read::{Reading, read};
+
+const STDIN_FILENO: i32 = 0;
+
+const STDOUT_FILENO: i32 = 1;
 
 fn print(n: u64) {
     io::print_decimal(STDOUT_FILENO, n);
