@@ -190,15 +190,15 @@ fn room(case: &[u32], i: usize, most: usize) -> usize
 
 // Outputs for 528 records.
 fn with_outputs(case: &[u32], bytes: &[u8]) {
-    let mut markers = [FILL; 33792];
-    let mut constants = [FILL; 4752];
+    let mut markers = [FILL; 9216];
+    let mut constants = [FILL; 2048];
     let mut names = [FILL; 512];
-    let mut errors = [FILL; 1584];
+    let mut errors = [FILL; 512];
     let mut lines = [FILL; 2048];
-    let m = room(case, 7, 33792);
-    let c = room(case, 8, 4752);
+    let m = room(case, 7, 9216);
+    let c = room(case, 8, 2048);
     let n = room(case, 9, 512);
-    let e = room(case, 10, 1584);
+    let e = room(case, 10, 512);
     let l = room(case, 11, 2048);
     call(
         case,
