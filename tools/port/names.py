@@ -147,6 +147,27 @@ def moved(root):
                 it.write(to)
 
 
+# Definitions of specs/ that the plain rule leaves with the ending of a lemma.
+BETTER = {
+    "share_start_lem": ("start_of_share", ()),
+    "member_count_lem": ("count_of_members", ("rules/proofs/LabelSteps.antt", "rules/proofs/LabelKinds.antt")),
+    "same_list_lem": ("same_numbers", ("tables/proofs/SeenLaws.antt",)),
+    "stream_of_lem": ("stream_numbered", ()),
+    "is_short_lem": ("is_short_form", ()),
+}
+
+
+def better(root):
+    for path in files(root, ".antt", ".rt", ".edit"):
+        text = to = read(path)
+        for old, (new, apart) in BETTER.items():
+            if not path.endswith(apart or ("\0",)):
+                to = re.sub(rf"(?<![\w'-]){old}(?![\w'-])", new, to)
+        if to != text:
+            with open(path, "w", encoding="utf-8") as it:
+                it.write(to)
+
+
 def main(args):
     check = "--check" in args
     root = [it for it in args if it != "--check"][0].rstrip("/")
@@ -188,6 +209,7 @@ def main(args):
                 it.write(new)
     if not check:
         moved(root)
+        better(root)
     print("\n".join(sorted(said)))
     print(f"{len(names)} names, {count} files, {len(said)} places to look at")
 

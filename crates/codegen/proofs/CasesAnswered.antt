@@ -17,11 +17,11 @@ use Rattle.tables.specs.Numbering.{manner, visited}
 use Rattle.tables.specs.Place.{broken_from}
 use Rattle.tables.specs.Forest.{guarded, first, next, grow, forest}
 use Rattle.tables.specs.Semantic.{share_start}
-use Rattle.pool.specs.Value.{same_list_lem, find, seen, intern}
+use Rattle.pool.specs.Value.{same_numbers, find, seen, intern}
 use Rattle.pool.specs.Names.{index_of, with_symbol, with_symbols, names_upto, names, load, store}
 use Rattle.rules.specs.Kinds.{steps}
 use Rattle.rules.specs.Run.{emit, bump, halt, begin, finish, outward, barred, kept, nested, exec, stream, run}
-use Rattle.rules.specs.Out.{consts, marker_words, const_words, plain_names, upvalue_words, error_words, loop_depth, stream_of_lem, each_function, outcome}
+use Rattle.rules.specs.Out.{consts, marker_words, const_words, plain_names, upvalue_words, error_words, loop_depth, stream_numbered, each_function, outcome}
 use Rattle.rules.specs.Cases.{Case, cases}
 use Rattle.codegen.specs.Space.{scarce, space_broken}
 use Rattle.codegen.specs.declared.call.Answer.{Answer}
@@ -32,7 +32,7 @@ abbrev called : Case → ℕ → Answer
 called c markers = answer_of [] [] [] [] (4294967295 ∷ 0 ∷ []) [] c.records markers (9 * size c.records) 0 (3 * size c.records) 7
 
 abbrev is_answer : Answer → ℕ → List ℕ → Bool
-is_answer a n vs = eqb (number_in a) n && same_list_lem (values_in a) vs
+is_answer a n vs = eqb (number_in a) n && same_numbers (values_in a) vs
 
 abbrev all_answered : List Case → Bool
 all_answered [] = true
@@ -41,5 +41,5 @@ all_answered (c ∷ cs) =
     && (is_answer (called c (64 * size c.records - 1)) 2 (0 ∷ 0 ∷ 0 ∷ []) && all_answered cs)
 
 pub cases_answered : T (all_answered cases)
-unfolding refusing rows_of unfit lent_broken same_string equal_earlier string_bad symbol_bad reference_bad parent_bad own_start twice member_bad entries_broken right_detail right_links fits right_children one named_by manner visited broken_from guarded first next grow forest share_start find seen intern index_of with_symbol with_symbols names_upto names load store steps emit bump halt begin finish outward barred kept nested exec stream run consts marker_words const_words plain_names upvalue_words error_words loop_depth stream_of_lem each_function outcome scarce space_broken checked_of answer_of
+unfolding refusing rows_of unfit lent_broken same_string equal_earlier string_bad symbol_bad reference_bad parent_bad own_start twice member_bad entries_broken right_detail right_links fits right_children one named_by manner visited broken_from guarded first next grow forest share_start find seen intern index_of with_symbol with_symbols names_upto names load store steps emit bump halt begin finish outward barred kept nested exec stream run consts marker_words const_words plain_names upvalue_words error_words loop_depth stream_numbered each_function outcome scarce space_broken checked_of answer_of
 cases_answered = tt

@@ -7,7 +7,7 @@ use lib.ListN.{length, take, length-take}
 use Rattle.tables.specs.Forest.{own_tree, children}
 use Rattle.tables.specs.Semantic.{pairs}
 use Rattle.tables.proofs.SemanticLaws.{start_mono}
-use Rattle.pool.specs.Names.{Semantic, semantic, Upvalue, Names, share_start_lem, names, names_upto}
+use Rattle.pool.specs.Names.{Semantic, semantic, Upvalue, Names, start_of_share, names, names_upto}
 use Rattle.pool.specs.NameWords.{plains, entries_of, all_entries, words_of, span_of}
 use Rattle.pool.specs.declared.spans.Span.{Span}
 use Rattle.pool.proofs.EntryLaws.{words_length, words_append}
@@ -60,10 +60,10 @@ module _ (symbols references functions members recs : List ℕ) (sound : Sound s
   abbrev t : Semantic
   t = semantic symbols references functions members
 
-  pub whole : share_start_lem t (pairs functions) ≡ length members
+  pub whole : start_of_share t (pairs functions) ≡ length members
   whole = (tables_kept symbols references functions members recs sound).entries_right.counts_sum
 
-  pub share_most : (n : ℕ) → n ≤ pairs functions → share_start_lem t n ≤ length members
+  pub share_most : (n : ℕ) → n ≤ pairs functions → start_of_share t n ≤ length members
   share_most n h = omega (arith, start_mono functions n (pairs functions) h, whole)
 
   pub some_met : 0 < met_of (ran t recs)
@@ -79,7 +79,7 @@ module _ (symbols references functions members recs : List ℕ) (sound : Sound s
     few : met ≤ pairs functions
     few = few_functions symbols references functions members recs sound
 
-    count_is : (n : ℕ) → 0 < n → n ≤ pairs functions → name_count spans n ≡ share_start_lem t n * 3
+    count_is : (n : ℕ) → 0 < n → n ≤ pairs functions → name_count spans n ≡ start_of_share t n * 3
     count_is zero h g = absurd (omega arith)
     count_is (suc n) h g =
         let z : suc n - 1 ≡ n = omega arith in
@@ -87,10 +87,10 @@ module _ (symbols references functions members recs : List ℕ) (sound : Sound s
         ap (λ (f : ℕ). ((span_of spans f).start + (span_of spans f).locals + (span_of spans f).globals + (span_of spans f).upvalues) * 3) z
         ∙ ap (λ (s : Span). (s.start + s.locals + s.globals + s.upvalues) * 3) e ∙ omega (arith, names_members t whole n (omega arith), start_more t n)
 
-    met_count : name_count spans met ≡ share_start_lem t met * 3
+    met_count : name_count spans met ≡ start_of_share t met * 3
     met_count = count_is met some_met few
 
-    met_front : take (share_start_lem t met * 3) entries ≡ words_of (all_entries (names_upto t met))
+    met_front : take (start_of_share t met * 3) entries ≡ words_of (all_entries (names_upto t met))
     met_front = p.front met few
 
     -- the words are there, and the names' output has room
@@ -100,7 +100,7 @@ module _ (symbols references functions members recs : List ℕ) (sound : Sound s
           arith,
           met_count,
           ap length met_front,
-          length-take (share_start_lem t met * 3) entries,
+          length-take (start_of_share t met * 3) entries,
           words_length (all_entries (names_upto t met)),
           entries_start t whole met few,
         )

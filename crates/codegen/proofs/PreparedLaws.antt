@@ -6,7 +6,7 @@ use Prim.Native.Nat.{ℕ, suc, ◌+◌, ◌*◌, ◌≤◌, ◌<◌}
 use native.Mathlib.Omega.{arith}
 use lib.ListN.{length, get_or, take, drop, take-append-drop, get_or-append}
 use lib.Seq.{take_at, get_or-append-add}
-use Rattle.pool.specs.Names.{Semantic, Upvalue, Names, function_count, share_start_lem, names, names_upto}
+use Rattle.pool.specs.Names.{Semantic, Upvalue, Names, function_count, start_of_share, names, names_upto}
 use Rattle.pool.specs.NameWords.{over, span_of, span_words, span_for, words_of, all_entries, entries_of, spans_from, fits, entries_after, spans_after}
 use Rattle.pool.specs.NameSteps.{Stands}
 use Rattle.pool.proofs.Basics.{on_true}
@@ -16,8 +16,8 @@ use Rattle.pool.proofs.NamesLaws.{names_take, names_next}
 
 -- the spans count each function's names, and the names of the first n functions stand in front
 pub record Named (t : Semantic) (entries spans : List ℕ) : Type 0 where
-  pub counted : (f : ℕ) → f < function_count t → span_of spans f ≡ span_for (share_start_lem t f) (names t f)
-  pub front : (n : ℕ) → n ≤ function_count t → take (share_start_lem t n * 3) entries ≡ words_of (all_entries (names_upto t n))
+  pub counted : (f : ℕ) → f < function_count t → span_of spans f ≡ span_for (start_of_share t f) (names t f)
+  pub front : (n : ℕ) → n ≤ function_count t → take (start_of_share t n * 3) entries ≡ words_of (all_entries (names_upto t n))
 
 entries_both : (ms ns : List Names) → all_entries (ms ++ ns) ≡ all_entries ms ++ all_entries ns
 unfolding all_entries
@@ -37,7 +37,7 @@ between : (a b c : List ℕ) (i : ℕ) → length a ≡ i → Stands (a ++ (b ++
 between a b c i e k h =
     ap (λ (n : ℕ). get_or (a ++ (b ++ c)) (n + k) 0) (sym e) ∙ get_or-append-add a (b ++ c) k 0 ∙ get_or-append b c 0 k h
 
-module _ (t : Semantic) (whole : share_start_lem t (function_count t) ≡ length t.members) (ws sp entries spans : List ℕ)
+module _ (t : Semantic) (whole : start_of_share t (function_count t) ≡ length t.members) (ws sp entries spans : List ℕ)
     (room : fits t (length ws) (length sp) ≡ true) (made : entries ≡ entries_after t ws sp) (spanned : spans ≡ spans_after t ws sp) where
   abbrev all : List Names
   all = names_upto t (function_count t)
@@ -55,18 +55,18 @@ module _ (t : Semantic) (whole : share_start_lem t (function_count t) ≡ length
   entries_made = made ∙ on_true _ _ _ room
 
   -- where function f's names start, and how many they are
-  counted_of : (f : ℕ) → f < function_count t → span_of spans f ≡ span_for (share_start_lem t f) (names t f)
-  counted_of f h = span_read spans f (span_for (share_start_lem t f) (names t f)) (at (spans_front (names_upto t (suc f)) (drop (suc f) all) 0))
+  counted_of : (f : ℕ) → f < function_count t → span_of spans f ≡ span_for (start_of_share t f) (names t f)
+  counted_of f h = span_read spans f (span_for (start_of_share t f) (names t f)) (at (spans_front (names_upto t (suc f)) (drop (suc f) all) 0))
     where
       a : List ℕ
       a = spans_from 0 (names_upto t f)
 
       b : List ℕ
-      b = span_words (span_for (share_start_lem t f) (names t f))
+      b = span_words (span_for (start_of_share t f) (names t f))
 
       last : spans_from 0 (names_upto t (suc f)) ≡ a ++ b
       last =
-          let z : 0 + length (all_entries (names_upto t f)) ≡ share_start_lem t f = omega (arith, entries_start t whole f (omega arith)) in
+          let z : 0 + length (all_entries (names_upto t f)) ≡ start_of_share t f = omega (arith, entries_start t whole f (omega arith)) in
           ap (spans_from 0) (names_next t f) ∙ spans_snoc (names_upto t f) 0 (names t f)
           ∙ ap (λ (k : ℕ). a ++ span_words (span_for k (names t f))) z
 
@@ -79,15 +79,15 @@ module _ (t : Semantic) (whole : share_start_lem t (function_count t) ≡ length
           ∙ append_assoc (a ++ b) rest d ∙ append_assoc a b (rest ++ d) in
           rw q (between a b (rest ++ d) (f * 4) (spans_length (names_upto t f) 0 ∙ ap (λ (n : ℕ). n * 4) (names_length t f)))
 
-  front_of : (n : ℕ) → n ≤ function_count t → take (share_start_lem t n * 3) entries ≡ words_of (all_entries (names_upto t n))
+  front_of : (n : ℕ) → n ≤ function_count t → take (start_of_share t n * 3) entries ≡ words_of (all_entries (names_upto t n))
   front_of n h =
       let a = words_of (all_entries (names_upto t n)) in
       let b = words_of (all_entries (drop n all)) in
       let e : words_of (all_entries all) ≡ a ++ b =
       ap (λ (l : List Names). words_of (all_entries l)) (split n h) ∙ ap words_of (entries_both (names_upto t n) (drop n all))
       ∙ words_append (all_entries (names_upto t n)) (all_entries (drop n all)) in
-      ap (take (share_start_lem t n * 3)) (entries_made ∙ ap (λ (l : List ℕ). over l ws) e ∙ append_assoc a b (drop (length (a ++ b)) ws))
-      ∙ take_at a (b ++ drop (length (a ++ b)) ws) (share_start_lem t n * 3)
+      ap (take (start_of_share t n * 3)) (entries_made ∙ ap (λ (l : List ℕ). over l ws) e ∙ append_assoc a b (drop (length (a ++ b)) ws))
+      ∙ take_at a (b ++ drop (length (a ++ b)) ws) (start_of_share t n * 3)
       (words_length (all_entries (names_upto t n)) ∙ ap (λ (k : ℕ). k * 3) (entries_start t whole n h))
 
   pub named_of : Named t entries spans

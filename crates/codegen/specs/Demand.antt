@@ -3,7 +3,7 @@ use Rattle.std.specs.Prelude.{◌≡◌, List, ℕ, zero, suc, ◌+◌, ◌*◌,
 use Rattle.tables.specs.Forest.{children, own_tree}
 use Rattle.pool.specs.Names.{Semantic}
 use Rattle.rules.specs.Run.{Stream, side}
-use Rattle.rules.specs.Out.{consts, const_words, stream_of_lem}
+use Rattle.rules.specs.Out.{consts, const_words, stream_numbered}
 use Rattle.rules.specs.Counts.{labels_counted}
 use Rattle.rules.specs.Demand.{Labels, Loops, Constants, Indices}
 use Rattle.codegen.specs.Walks.{stack_code, ran}
@@ -33,4 +33,4 @@ pub record Sound3 (t : Semantic) (recs markers constants lines : List ℕ) (met 
 
 -- "for each function"
 abbrev pub Demand3On : Semantic → (recs markers constants lines : List ℕ) → ℕ → Type 0
-Demand3On t recs markers constants lines met = (f : ℕ) → f < met → Sound3 t recs markers constants lines met f (stream_of_lem (side (ran t recs)).streams f)
+Demand3On t recs markers constants lines met = (f : ℕ) → f < met → Sound3 t recs markers constants lines met f (stream_numbered (side (ran t recs)).streams f)

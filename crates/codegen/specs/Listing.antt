@@ -5,7 +5,7 @@ use Rattle.tables.specs.Forest.{own_tree, children}
 use Rattle.pool.specs.NameWords.{over, span_of}
 use Rattle.rules.specs.Marker.{Op, Label, To, Back, Leave, Load, Do, Mark, mark}
 use Rattle.rules.specs.Run.{Stream, State, marks as marksOf, labels as labelsOf, side as side_of}
-use Rattle.rules.specs.Out.{consts, marker_words, const_words, loop_depth, stream_of_lem, each_function}
+use Rattle.rules.specs.Out.{consts, marker_words, const_words, loop_depth, stream_numbered, each_function}
 use Rattle.emit.specs.Words.{limit}
 use Rattle.codegen.specs.Places.{Numbered}
 use Rattle.codegen.specs.Walks.{noted_run, single, Walkable}
@@ -42,7 +42,7 @@ abbrev pub met_of : State → ℕ
 met_of A = (side_of A).met
 
 abbrev pub stream_of : State → ℕ → Stream
-stream_of A n = stream_of_lem (side_of A).streams n
+stream_of A n = stream_numbered (side_of A).streams n
 
 abbrev pub first_of : State → (Stream → List ℕ) → ℕ → List ℕ
 first_of A f n = each_function f (side_of A).streams n

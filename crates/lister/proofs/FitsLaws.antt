@@ -12,7 +12,7 @@ use Rattle.tables.specs.Refusal.{number_of, place_of}
 use Rattle.tables.specs.declared.refusal.Refusal.TheVariants.{Run}
 use Rattle.tables.specs.declared.refusal.Checked.{Checked}
 use Rattle.tables.specs.declared.refusal.Checked.TheVariants.{Accepted, Refused as Broke}
-use Rattle.pool.specs.Names.{Semantic, semantic, Names, share_start_lem, member_count_lem, names}
+use Rattle.pool.specs.Names.{Semantic, semantic, Names, start_of_share, count_of_members, names}
 use Rattle.pool.specs.NameWords.{over}
 use Rattle.pool.proofs.NameUpto.{start_more}
 use Rattle.pool.proofs.NamesLaws.{names_members}
@@ -45,14 +45,14 @@ module _ (symbols references functions members recs : List ℕ) (sound : Sound s
   line_weight : (k : ℕ) → k < met_of (ran t recs) → (rest : List ℕ)
       → total (suc k) (first_of (ran t recs) (line_words t recs) (suc k) ++ rest)
       ≡ total k (first_of (ran t recs) (line_words t recs) k ++ (line_words t recs (stream_of (ran t recs) k) ++ rest))
-      + weighed (length (stream_of (ran t recs) k).marks) (length (consts (stream_of (ran t recs) k).marks)) (member_count_lem t k)
+      + weighed (length (stream_of (ran t recs) k).marks) (length (consts (stream_of (ran t recs) k).marks)) (count_of_members t k)
   unfolding each_function
   line_weight k h rest =
       let x = stream_of (ran t recs) k in
       let a = first_of (ran t recs) (line_words t recs) k in
       let b = line_words t recs x ++ rest in
       let named : Names → ℕ = λ n. length n.locals + length n.globals + length n.upvalues in
-      let n : named (names t x.number) ≡ member_count_lem t k =
+      let n : named (names t x.number) ≡ count_of_members t k =
       ap (λ (f : ℕ). named (names t f)) (own_name (look t) recs k h) ∙ names_members t (whole symbols references functions members recs sound) k (few k h) in
       let w : weight (drop (k * 7) (a ++ b)) ≡ weight b = ap weight (drop_at a b (k * 7) (all_length (ran t recs) (line_words t recs) 7 (λ x. refl) k)) in
       ap (total (suc k)) (append_assoc a (line_words t recs x) rest) ∙ total_last k (a ++ b) ∙ omega arith
@@ -60,7 +60,7 @@ module _ (symbols references functions members recs : List ℕ) (sound : Sound s
   -- the lines of the first k functions count their words: two for a marker, three for a constant; so all is taken six times
   lines_total : (k : ℕ) → k ≤ met_of (ran t recs) → (rest : List ℕ)
       → 6 * total k (first_of (ran t recs) (line_words t recs) k ++ rest)
-      ≡ 18570 * k + 261 * length (first_of (ran t recs) markers_of k) + 162 * length (first_of (ran t recs) constants_of k) + 600 * share_start_lem t k
+      ≡ 18570 * k + 261 * length (first_of (ran t recs) markers_of k) + 162 * length (first_of (ran t recs) constants_of k) + 600 * start_of_share t k
   unfolding total each_function share_start
   lines_total zero h rest = refl
   lines_total (suc k) h rest =

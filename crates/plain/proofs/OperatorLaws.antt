@@ -35,7 +35,7 @@ use Rattle.tables.specs.Forest.{Nodes}
 use Rattle.tables.specs.declared.refusal.RunRule.TheVariants.{Operator}
 use Rattle.pool.specs.Value.{child}
 use Rattle.rules.specs.declared.Flow.TheVariants.{Refused}
-use Rattle.rules.specs.Arms.{unary_code, binary_code, no_opcode, is_short_lem, is_method, get_code, set_code}
+use Rattle.rules.specs.Arms.{unary_code, binary_code, no_opcode, is_short_form, is_method, get_code, set_code}
 use Rattle.rules.specs.Marker.{JumpIfTrueOrPop, JumpIfFalseOrPop, Code, Add, Sub, Mul, Div, Rem, Eq, Ne, Lt, Le, Gt, Ge, SetItem, SetAttr, SetMeta, Do, mark}
 use Rattle.rules.specs.Out.{code_number}
 use Rattle.rules.specs.Run.{State, emit, halt}
@@ -243,7 +243,7 @@ module _ {o : BinOp} (d : ℕ) (e : o ≡ binary_of d) where
           given (on_false _ _ _ q.0) (said r (binary_code d) 0 refl refl (subst (λ z. Pushes u w u' w' z) q.1 k) h)
       by Absent k q = given (on_true _ _ _ q) (same_words k.0 refl (halted (Refused Operator r) k.1 h))
 
-  pub short_assign_lem : (k : Nodes) → short_assign o k ≡ is_short_lem d k
+  pub short_assign_lem : (k : Nodes) → short_assign o k ≡ is_short_form d k
   unfolding short_assign
   short_assign_lem k = ap₂ (λ (x y : Bool). eqb (child k 0).detail 0 && (x || y)) is_and is_or
 

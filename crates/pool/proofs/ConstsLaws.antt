@@ -8,7 +8,7 @@ use native.Mathlib.Decide.{ℕ_discrete}
 use lib.ListN.{length, get_or, length-append}
 use lib.Dec.{eqb}
 use borrow.Author.Tests.{eq-eqb, eqb-true}
-use Rattle.pool.specs.Value.{Value, plain, effect, Null, Const, same, same_list_lem, same_bool, find, seen, intern, start}
+use Rattle.pool.specs.Value.{Value, plain, effect, Null, Const, same, same_numbers, same_bool, find, seen, intern, start}
 use Rattle.pool.specs.Consts.{made, added, index_of, count_of, most, interned}
 use Rattle.pool.specs.declared.consts.Added.{Added}
 use Rattle.pool.specs.declared.consts.Added.TheVariants.{At, Full}
@@ -29,7 +29,7 @@ and_both false b e = absurd (clash (sym e))
 eqb_self : (n : ℕ) → eqb n n ≡ true
 eqb_self n = eq-eqb n n refl
 
-list_self : (xs : List ℕ) → same_list_lem xs xs ≡ true
+list_self : (xs : List ℕ) → same_numbers xs xs ≡ true
 list_self [] = refl
 list_self (x ∷ xs) = ap₂ ◌&&◌ (eqb_self x) (list_self xs)
 
@@ -41,11 +41,11 @@ pub same_self : (v : Value) → same v v ≡ true
 same_self (plain k p q) = ap₂ ◌&&◌ (eqb_self k) (ap₂ ◌&&◌ (eqb_self p) (eqb_self q))
 same_self (effect n ps b) = ap₂ ◌&&◌ (eqb_self n) (ap₂ ◌&&◌ (list_self ps) (bool_self b))
 
-list_eq : (xs ys : List ℕ) → same_list_lem xs ys ≡ true → xs ≡ ys
+list_eq : (xs ys : List ℕ) → same_numbers xs ys ≡ true → xs ≡ ys
 list_eq [] [] e = refl
 list_eq [] (y ∷ ys) e = absurd (clash (sym e))
 list_eq (x ∷ xs) [] e = absurd (clash (sym e))
-list_eq (x ∷ xs) (y ∷ ys) e = let z = and_both (eqb x y) (same_list_lem xs ys) e in ap₂ ◌∷◌ (eqb-true x y z.0) (list_eq xs ys z.1)
+list_eq (x ∷ xs) (y ∷ ys) e = let z = and_both (eqb x y) (same_numbers xs ys) e in ap₂ ◌∷◌ (eqb-true x y z.0) (list_eq xs ys z.1)
 
 bool_eq : (a b : Bool) → same_bool a b ≡ true → a ≡ b
 bool_eq true true e = refl
@@ -62,7 +62,7 @@ same_eq (plain k p q) (effect n ps b) e = absurd (clash (sym e))
 same_eq (effect n ps b) (plain k p q) e = absurd (clash (sym e))
 same_eq (effect n ps b) (effect n' ps' b') e =
     let z = and_both (eqb n n') _ e in
-    let y = and_both (same_list_lem ps ps') (same_bool b b') z.1 in
+    let y = and_both (same_numbers ps ps') (same_bool b b') z.1 in
     ap₂ (λ x ys. effect x ys b) (eqb-true n n' z.0) (list_eq ps ps' y.0) ∙ ap (effect n' ps') (bool_eq b b' y.1)
 
 -- ---- the search

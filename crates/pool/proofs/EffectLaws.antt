@@ -10,7 +10,7 @@ use borrow.Author.Tests.{eq-eqb, ne_eqb}
 use Rattle.tables.specs.Record.{Words, words, word, size}
 use Rattle.tables.specs.Forest.{bare, forest, own_tree, children, first, next}
 use Rattle.tables.proofs.ForestLaws.{forest_absent, forest_record, next_zero, next_onward, Onward}
-use Rattle.pool.specs.Value.{zeros, child, below, ident_names, same, same_list_lem, same_bool, effect_at}
+use Rattle.pool.specs.Value.{zeros, child, below, ident_names, same, same_numbers, same_bool, effect_at}
 use Rattle.pool.specs.Consts.{name_at, names_from, names_below, is_variadic}
 
 and_false : (b : Bool) → b && false ≡ false
@@ -85,23 +85,23 @@ module _ (recs : List ℕ) where
   names_some (suc r) ne = ap (λ f. ident_names (own_tree f)) (forest_record recs r)
 
   -- two rows of siblings, as a walk along both compares them
-  alike : (x y : ℕ) → (x ≡ 0 → ⊥) → (y ≡ 0 → ⊥) → same_list_lem (names_from recs x) (names_from recs y)
-      ≡ eqb (word recs x 3) (word recs y 3) && same_list_lem (names_from recs (next recs x)) (names_from recs (next recs y))
-  alike x y nx ny = ap₂ same_list_lem (names_some x nx) (names_some y ny)
+  alike : (x y : ℕ) → (x ≡ 0 → ⊥) → (y ≡ 0 → ⊥) → same_numbers (names_from recs x) (names_from recs y)
+      ≡ eqb (word recs x 3) (word recs y 3) && same_numbers (names_from recs (next recs x)) (names_from recs (next recs y))
+  alike x y nx ny = ap₂ same_numbers (names_some x nx) (names_some y ny)
 
-  pub alike_short : (x y : ℕ) → (x ≡ 0 → ⊥) → y ≡ 0 → false ≡ same_list_lem (names_from recs x) (names_from recs y)
-  alike_short x y nx e = sym (ap₂ same_list_lem (names_some x nx) (names_none y e))
+  pub alike_short : (x y : ℕ) → (x ≡ 0 → ⊥) → y ≡ 0 → false ≡ same_numbers (names_from recs x) (names_from recs y)
+  alike_short x y nx e = sym (ap₂ same_numbers (names_some x nx) (names_none y e))
 
-  pub alike_other : (x y : ℕ) → (x ≡ 0 → ⊥) → (y ≡ 0 → ⊥) → (word recs x 3 ≡ word recs y 3 → ⊥) → false ≡ same_list_lem (names_from recs x) (names_from recs y)
-  alike_other x y nx ny d = sym (alike x y nx ny ∙ ap (λ b. b && same_list_lem (names_from recs (next recs x)) (names_from recs (next recs y))) (ne_eqb _ _ d))
+  pub alike_other : (x y : ℕ) → (x ≡ 0 → ⊥) → (y ≡ 0 → ⊥) → (word recs x 3 ≡ word recs y 3 → ⊥) → false ≡ same_numbers (names_from recs x) (names_from recs y)
+  alike_other x y nx ny d = sym (alike x y nx ny ∙ ap (λ b. b && same_numbers (names_from recs (next recs x)) (names_from recs (next recs y))) (ne_eqb _ _ d))
 
   pub alike_next : (x y : ℕ) → (x ≡ 0 → ⊥) → (y ≡ 0 → ⊥) → word recs x 3 ≡ word recs y 3
-      → same_list_lem (names_from recs (next recs x)) (names_from recs (next recs y)) ≡ same_list_lem (names_from recs x) (names_from recs y)
-  alike_next x y nx ny e = sym (alike x y nx ny ∙ ap (λ b. b && same_list_lem (names_from recs (next recs x)) (names_from recs (next recs y))) (eq-eqb _ _ e))
+      → same_numbers (names_from recs (next recs x)) (names_from recs (next recs y)) ≡ same_numbers (names_from recs x) (names_from recs y)
+  alike_next x y nx ny e = sym (alike x y nx ny ∙ ap (λ b. b && same_numbers (names_from recs (next recs x)) (names_from recs (next recs y))) (eq-eqb _ _ e))
 
-  pub alike_end : (x y : ℕ) → x ≡ 0 → eqb y 0 ≡ same_list_lem (names_from recs x) (names_from recs y)
-  alike_end x zero e = sym (ap₂ same_list_lem (names_none x e) (names_none 0 refl))
-  alike_end x (suc y) e = ne_eqb (suc y) 0 (λ q. omega arith) ∙ sym (ap₂ same_list_lem (names_none x e) (names_some (suc y) (λ q. omega arith)))
+  pub alike_end : (x y : ℕ) → x ≡ 0 → eqb y 0 ≡ same_numbers (names_from recs x) (names_from recs y)
+  alike_end x zero e = sym (ap₂ same_numbers (names_none x e) (names_none 0 refl))
+  alike_end x (suc y) e = ne_eqb (suc y) 0 (λ q. omega arith) ∙ sym (ap₂ same_numbers (names_none x e) (names_some (suc y) (λ q. omega arith)))
 
   -- how far a walk along siblings can go
   unfoldable pub reach : ℕ → ℕ
@@ -121,7 +121,7 @@ module _ (recs : List ℕ) where
 
   -- two effects by their parts: names, parameters' names, variadic
   abbrev parts : ℕ → ℕ → List ℕ → List ℕ → Bool → Bool → Bool
-  parts n m x y v w = eqb n m && (same_list_lem x y && same_bool v w)
+  parts n m x y v w = eqb n m && (same_numbers x y && same_bool v w)
 
   abbrev names_in : ℕ → List ℕ
   names_in r = ident_names (below (own_tree (children recs r)) 1)
@@ -149,17 +149,17 @@ module _ (recs : List ℕ) where
         ∙ ap₂ (parts na nb xs ys) (variadic_of a c ec) (variadic_of b d ed)
 
     pub other_name : (na ≡ nb → ⊥) → false ≡ same (effect_at recs a) (effect_at recs b)
-    other_name ne = sym (by_parts ∙ ap (λ t. t && (same_list_lem xs ys && same_bool (is_variadic recs c) (is_variadic recs d))) (ne_eqb na nb ne))
+    other_name ne = sym (by_parts ∙ ap (λ t. t && (same_numbers xs ys && same_bool (is_variadic recs c) (is_variadic recs d))) (ne_eqb na nb ne))
 
     module _ (e : na ≡ nb) (f v w : Bool) (q : f ≡ same_bool v w) (ev : v ≡ is_variadic recs c) (ew : w ≡ is_variadic recs d) where
-      same_name : same (effect_at recs a) (effect_at recs b) ≡ same_list_lem xs ys && f
+      same_name : same (effect_at recs a) (effect_at recs b) ≡ same_numbers xs ys && f
       same_name =
-          by_parts ∙ ap (λ t. t && (same_list_lem xs ys && same_bool (is_variadic recs c) (is_variadic recs d))) (eq-eqb na nb e)
-          ∙ ap (λ t. same_list_lem xs ys && t) (ap₂ same_bool (sym ev) (sym ew) ∙ sym q)
+          by_parts ∙ ap (λ t. t && (same_numbers xs ys && same_bool (is_variadic recs c) (is_variadic recs d))) (eq-eqb na nb e)
+          ∙ ap (λ t. same_numbers xs ys && t) (ap₂ same_bool (sym ev) (sym ew) ∙ sym q)
 
       pub other_variadic : f ≡ false → false ≡ same (effect_at recs a) (effect_at recs b)
-      other_variadic z = sym (same_name ∙ ap (λ t. same_list_lem xs ys && t) z ∙ and_false (same_list_lem xs ys))
+      other_variadic z = sym (same_name ∙ ap (λ t. same_numbers xs ys && t) z ∙ and_false (same_numbers xs ys))
 
-      pub same_parameters : f ≡ true → (s : Bool) (us vs : List ℕ) → s ≡ same_list_lem us vs → us ≡ xs → vs ≡ ys → s ≡ same (effect_at recs a) (effect_at recs b)
+      pub same_parameters : f ≡ true → (s : Bool) (us vs : List ℕ) → s ≡ same_numbers us vs → us ≡ xs → vs ≡ ys → s ≡ same (effect_at recs a) (effect_at recs b)
       same_parameters z s us vs es eu ev' =
-          es ∙ ap₂ same_list_lem eu ev' ∙ sym (same_name ∙ ap (λ t. same_list_lem xs ys && t) z ∙ and_true (same_list_lem xs ys))
+          es ∙ ap₂ same_numbers eu ev' ∙ sym (same_name ∙ ap (λ t. same_numbers xs ys && t) z ∙ and_true (same_numbers xs ys))

@@ -8,7 +8,7 @@ use lib.ListN.{length, get_or}
 use lib.Dec.{leb, ltb, eqb}
 use borrow.Author.Tests.{lt-ltb, ltb-true, eqb-true, eq-eqb, ne_eqb, le-leb, lt-leb, leb-true}
 use Rattle.tables.proofs.CheckLaws.{Kept}
-use Rattle.pool.specs.Names.{Semantic, semantic, function_count, share_start_lem}
+use Rattle.pool.specs.Names.{Semantic, semantic, function_count, start_of_share}
 use Rattle.pool.specs.NameWords.{under, fits}
 use Rattle.pool.specs.NameSteps.{Fits}
 use Rattle.pool.specs.Resolve.{Grown}
@@ -47,18 +47,18 @@ module _ (t : Semantic) (entries spans : ℕ) where
         unfolding fits
         few_spans h = rw (le-leb _ _ a, le-leb _ _ b, le-leb _ _ c, lt-leb _ _ h)
 
-        module _ (d : function_count t * 4 ≤ spans) (n sum : ℕ) (e : n ≡ function_count t) (s : sum ≡ min (share_start_lem t n) (2 ^ 63)) where
+        module _ (d : function_count t * 4 ≤ spans) (n sum : ℕ) (e : n ≡ function_count t) (s : sum ≡ min (start_of_share t n) (2 ^ 63)) where
           pub uncounted : (sum ≡ length t.members → ⊥) → false ≡ fits t entries spans
           unfolding fits
           uncounted h =
-              let q : share_start_lem t (function_count t) ≡ length t.members → ⊥ = λ z. h (omega (arith, ap (share_start_lem t) e)) in
-              rw (le-leb _ _ a, le-leb _ _ b, le-leb _ _ c, le-leb _ _ d, ne_eqb (share_start_lem t (function_count t)) (length t.members) q)
+              let q : start_of_share t (function_count t) ≡ length t.members → ⊥ = λ z. h (omega (arith, ap (start_of_share t) e)) in
+              rw (le-leb _ _ a, le-leb _ _ b, le-leb _ _ c, le-leb _ _ d, ne_eqb (start_of_share t (function_count t)) (length t.members) q)
 
           pub counted : sum ≡ length t.members → under 1024 t.members ≡ fits t entries spans
           unfolding fits
           counted h =
-              let q : share_start_lem t (function_count t) ≡ length t.members = omega (arith, ap (share_start_lem t) e) in
-              rw (le-leb _ _ a, le-leb _ _ b, le-leb _ _ c, le-leb _ _ d, eq-eqb (share_start_lem t (function_count t)) (length t.members) q)
+              let q : start_of_share t (function_count t) ≡ length t.members = omega (arith, ap (start_of_share t) e) in
+              rw (le-leb _ _ a, le-leb _ _ b, le-leb _ _ c, le-leb _ _ d, eq-eqb (start_of_share t (function_count t)) (length t.members) q)
 
   pub fits_all : fits t entries spans ≡ true → Fits t entries spans
   unfolding fits
@@ -67,7 +67,7 @@ module _ (t : Semantic) (entries spans : ℕ) where
       let p2 = both (leb (length t.members) 1024) _ p1.1 in
       let p3 = both (leb (length t.members * 3) entries) _ p2.1 in
       let p4 = both (leb (function_count t * 4) spans) _ p3.1 in
-      let p5 = both (eqb (share_start_lem t (function_count t)) (length t.members)) _ p4.1 in
+      let p5 = both (eqb (start_of_share t (function_count t)) (length t.members)) _ p4.1 in
       record {
         functions_limit = leb-true _ _ p1.0;
         members_limit = leb-true _ _ p2.0;

@@ -6,7 +6,7 @@ use native.Mathlib.Omega.{arith}
 use lib.ListN.{length, get_or, drop, length-append, length-take, length-drop}
 use Rattle.tables.specs.Semantic.{share_start}
 use Rattle.tables.proofs.SemanticLaws.{start_mono}
-use Rattle.pool.specs.Names.{Semantic, function_count, parent, member_count_lem, share_start_lem, share, Upvalue, Names, no_names, with_symbols, names_upto}
+use Rattle.pool.specs.Names.{Semantic, function_count, parent, count_of_members, start_of_share, share, Upvalue, Names, no_names, with_symbols, names_upto}
 use Rattle.pool.specs.NameWords.{entries_of, all_entries, spans_from, span_words, span_for, class_of, made}
 use Rattle.pool.proofs.NameTables.{in_passes, made_length}
 
@@ -43,19 +43,19 @@ module _ (t : Semantic) where
   names_length zero = refl
   names_length (suc n) = omega (arith, names_length n, length-append (names_upto t n) (with_symbols t (parent_names n) (share t n) no_names ∷ []))
 
-  pub start_more : (f : ℕ) → share_start_lem t (suc f) ≡ share_start_lem t f + member_count_lem t f
+  pub start_more : (f : ℕ) → start_of_share t (suc f) ≡ start_of_share t f + count_of_members t f
   unfolding share_start
   start_more f = refl
 
   -- counts that sum to the members: each function has its whole share, and an entry for each member
-  module _ (whole : share_start_lem t (function_count t) ≡ length t.members) where
-    pub share_fits : (f : ℕ) → f < function_count t → share_start_lem t f + member_count_lem t f ≤ length t.members
+  module _ (whole : start_of_share t (function_count t) ≡ length t.members) where
+    pub share_fits : (f : ℕ) → f < function_count t → start_of_share t f + count_of_members t f ≤ length t.members
     share_fits f h = omega (arith, start_more f, start_mono t.functions (suc f) (function_count t) (omega arith))
 
-    pub share_length : (f : ℕ) → f < function_count t → length (share t f) ≡ member_count_lem t f
-    share_length f h = omega (arith, share_fits f h, length-take (member_count_lem t f) (drop (share_start_lem t f) t.members), length-drop (share_start_lem t f) t.members)
+    pub share_length : (f : ℕ) → f < function_count t → length (share t f) ≡ count_of_members t f
+    share_length f h = omega (arith, share_fits f h, length-take (count_of_members t f) (drop (start_of_share t f) t.members), length-drop (start_of_share t f) t.members)
 
-    pub entries_start : (f : ℕ) → f ≤ function_count t → length (all_entries (names_upto t f)) ≡ share_start_lem t f
+    pub entries_start : (f : ℕ) → f ≤ function_count t → length (all_entries (names_upto t f)) ≡ start_of_share t f
     unfolding names_upto all_entries share_start
     entries_start zero h = refl
     entries_start (suc f) h =

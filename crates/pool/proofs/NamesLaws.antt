@@ -12,7 +12,7 @@ use lib.Dec.{ltb, leb, eqb}
 use borrow.Author.Tests.{ltb-true, ltb-false, leb-true, leb-false, eqb-true, eq-eqb}
 use Rattle.tables.specs.Semantic.{symbol_of}
 use Rattle.tables.specs.declared.refusal.RunRule.TheVariants.{Reference}
-use Rattle.pool.specs.Names.{Semantic, function_count, is_global, parent, member_count_lem, share_start_lem, share}
+use Rattle.pool.specs.Names.{Semantic, function_count, is_global, parent, count_of_members, start_of_share, share}
 use Rattle.pool.specs.Names.{Upvalue, upvalue_symbols, Names, no_names, names_upto, names}
 use Rattle.pool.specs.Names.{Place, at, nowhere, later, index_of, Access, local, global, upvalue, missing}
 use Rattle.pool.specs.Names.{load, store, load_symbol, store_symbol, first_found, stored_global, stored_local}
@@ -87,11 +87,11 @@ module _ (t : Semantic) where
       let c1 = chosen GLOBALS (class_of t (parent_names t f)) (share t f) in
       rw (names_made f) (omega (arith, symbols_length c0, symbols_length c1, chosen_length (class_of t (parent_names t f)) (share t f)))
 
-  pub names_members : share_start_lem t (function_count t) ≡ length t.members → (f : ℕ) → f < function_count t
-      → length (names t f).locals + length (names t f).globals + length (names t f).upvalues ≡ member_count_lem t f
+  pub names_members : start_of_share t (function_count t) ≡ length t.members → (f : ℕ) → f < function_count t
+      → length (names t f).locals + length (names t f).globals + length (names t f).upvalues ≡ count_of_members t f
   names_members whole f h = names_count f ∙ share_length t whole f h
 
-  pub entries_count : share_start_lem t (function_count t) ≡ length t.members → (f : ℕ) → f < function_count t → length (entries_of (names t f)) ≡ member_count_lem t f
+  pub entries_count : start_of_share t (function_count t) ≡ length t.members → (f : ℕ) → f < function_count t → length (entries_of (names t f)) ≡ count_of_members t f
   entries_count whole f h = entries_length (names t f) ∙ names_members whole f h
 
 -- a place that is found is inside the list, and has the symbol

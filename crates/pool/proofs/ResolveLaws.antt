@@ -12,7 +12,7 @@ use Rattle.tables.specs.Scratch.{Handed}
 use Rattle.tables.specs.Semantic.{pairs}
 use Rattle.tables.proofs.SemanticLaws.{split, past}
 use Rattle.tables.proofs.HandLaws.{next_inside}
-use Rattle.pool.specs.Names.{Semantic, semantic, function_count, share_start_lem, upvalue_symbols, names, nowhere, index_of}
+use Rattle.pool.specs.Names.{Semantic, semantic, function_count, start_of_share, upvalue_symbols, names, nowhere, index_of}
 use Rattle.pool.specs.Scope.{SYMBOLS, OWNER, LOCALS, GLOBALS, UPVALUES, owner_of, index_in, idents, inners}
 use Rattle.pool.specs.NameWords.{span_for, span_of, fits, entries_after, spans_after}
 use Rattle.pool.specs.NameSteps.{stamped_names, Fits, parent_owner, owner_names, Shown}
@@ -183,7 +183,7 @@ module _ (symbols references functions members recs ws₀ sp₀ ns₀ : List ℕ
       turned : Turned t (suc o) sc sc'
       turned =
           turn_stamped t (length ws₀) (length sp₀) fit o h sc ws s.long s.slots (s.made.entries o h named) span
-          (es ∙ span_read sp o (span_for (share_start_lem t o) (names t o)) (s.made.spans o h named)) sc' (ec ∙ ap (stamped_names sc ws span) next_o)
+          (es ∙ span_read sp o (span_for (start_of_share t o) (names t o)) (s.made.spans o h named)) sc' (ec ∙ ap (stamped_names sc ws span) next_o)
 
       inner_next : InnerChains functions (suc (pairs functions)) sc'
       inner_next = inner_kept functions (suc (pairs functions)) sc sc' few turned.behind s.inside

@@ -5,7 +5,7 @@ use Prim.Native.Nat.{ℕ, suc, ◌+◌, ◌*◌, ◌≤◌, ◌<◌}
 use native.Mathlib.Omega.{arith}
 use lib.ListN.{length, get_or, drop, set, length-set}
 use lib.Seq.{get_or-set_same, get_or-set_other, get_or-take, get_or-drop}
-use Rattle.pool.specs.Names.{Semantic, function_count, member_count_lem, share_start_lem, share, upvalue_symbols, Names, names, Place, at, nowhere, index_of}
+use Rattle.pool.specs.Names.{Semantic, function_count, count_of_members, start_of_share, share, upvalue_symbols, Names, names, Place, at, nowhere, index_of}
 use Rattle.pool.specs.Scope.{SYMBOLS, OWNER, OWNERS, LOCALS, GLOBALS, UPVALUES, owner_of, index_in, stamps}
 use Rattle.pool.specs.NameWords.{plains, words_of, entries_of, span_for, slot_of, class_of, chosen, made}
 use Rattle.pool.specs.NameSteps.{symbols_at, stamped_names, Stands, Fits, parent_owner, owner_names, Shown}
@@ -164,33 +164,33 @@ module _ (t : Semantic) (entries spans : ℕ) (fits : Fits t entries spans) (f :
 
   share_slotted : Slotted (share t f)
   share_slotted m p =
-      let q : m < member_count_lem t f = omega (arith, share_length t fits.counted f h) in
-      let r : share_start_lem t f + m < length t.members = omega (arith, share_fits t fits.counted f h) in
-      omega (arith, get_or-take (member_count_lem t f) (drop (share_start_lem t f) t.members) m 0 q, get_or-drop (share_start_lem t f) t.members m 0, fits.symbols_limit _ r)
+      let q : m < count_of_members t f = omega (arith, share_length t fits.counted f h) in
+      let r : start_of_share t f + m < length t.members = omega (arith, share_fits t fits.counted f h) in
+      omega (arith, get_or-take (count_of_members t f) (drop (start_of_share t f) t.members) m 0 q, get_or-drop (start_of_share t f) t.members m 0, fits.symbols_limit _ r)
 
   pub turn_stamped : (sc es : List ℕ) → length sc ≡ 5892 → ((s : ℕ) → s < SYMBOLS → get_or sc s 0 < suc f * 4096)
-      → Stands es (share_start_lem t f * 3) (words_of (entries_of (names t f))) → (span : Span) → span ≡ span_for (share_start_lem t f) (names t f) → (sc' : List ℕ)
+      → Stands es (start_of_share t f * 3) (words_of (entries_of (names t f))) → (span : Span) → span ≡ span_for (start_of_share t f) (names t f) → (sc' : List ℕ)
       → sc' ≡ stamped_names sc es span (suc f) → Turned t (suc f) sc sc'
   turn_stamped sc es long below stands span q sc' e =
       let cl = class_of t (owner_names t (parent_owner t.functions f)) in
       let ss = share t f in
       let n : names t f ≡ made cl ss = names_owned t f in
-      let st = subst (λ (m : Names). Stands es (share_start_lem t f * 3) (words_of (entries_of m))) n stands in
-      let eq : sc' ≡ stamped_names sc es (span_for (share_start_lem t f) (made cl ss)) (suc f) =
-      e ∙ ap (λ (x : Span). stamped_names sc es x (suc f)) (q ∙ ap (span_for (share_start_lem t f)) n) in
-      let o : owner_of sc' ≡ suc f = stamped_owner cl ss share_few share_slotted sc es (share_start_lem t f) (suc f) long (omega (arith, fits.functions_limit)) below st sc' eq in
+      let st = subst (λ (m : Names). Stands es (start_of_share t f * 3) (words_of (entries_of m))) n stands in
+      let eq : sc' ≡ stamped_names sc es (span_for (start_of_share t f) (made cl ss)) (suc f) =
+      e ∙ ap (λ (x : Span). stamped_names sc es x (suc f)) (q ∙ ap (span_for (start_of_share t f)) n) in
+      let o : owner_of sc' ≡ suc f = stamped_owner cl ss share_few share_slotted sc es (start_of_share t f) (suc f) long (omega (arith, fits.functions_limit)) below st sc' eq in
       let own : made cl ss ≡ owner_names t (owner_of sc') = sym (ap (owner_names t) o ∙ n) in
       let lim : suc f < OWNERS = omega (arith, fits.functions_limit) in
       record {
         shown =
             record {
-              locals = λ s. stamped_locals cl ss share_few share_slotted sc es (share_start_lem t f) (suc f) long lim below st sc' eq s ∙ ap (λ (m : Names). index_of m.locals s) own;
-              globals = λ s. stamped_globals cl ss share_few share_slotted sc es (share_start_lem t f) (suc f) long lim below st sc' eq s ∙ ap (λ (m : Names). index_of m.globals s) own;
-              upvalues = λ s. stamped_upvalues cl ss share_few share_slotted sc es (share_start_lem t f) (suc f) long lim below st sc' eq s
+              locals = λ s. stamped_locals cl ss share_few share_slotted sc es (start_of_share t f) (suc f) long lim below st sc' eq s ∙ ap (λ (m : Names). index_of m.locals s) own;
+              globals = λ s. stamped_globals cl ss share_few share_slotted sc es (start_of_share t f) (suc f) long lim below st sc' eq s ∙ ap (λ (m : Names). index_of m.globals s) own;
+              upvalues = λ s. stamped_upvalues cl ss share_few share_slotted sc es (start_of_share t f) (suc f) long lim below st sc' eq s
                   ∙ ap (λ (m : Names). index_of (upvalue_symbols m.upvalues) s) own;
             };
         owner = o;
-        slots = stamped_slots cl ss share_few share_slotted sc es (share_start_lem t f) (suc f) long lim below st sc' eq;
-        behind = stamped_behind cl ss share_few share_slotted sc es (share_start_lem t f) (suc f) long lim below st sc' eq;
-        long = stamped_long cl ss share_few share_slotted sc es (share_start_lem t f) (suc f) long lim below st sc' eq;
+        slots = stamped_slots cl ss share_few share_slotted sc es (start_of_share t f) (suc f) long lim below st sc' eq;
+        behind = stamped_behind cl ss share_few share_slotted sc es (start_of_share t f) (suc f) long lim below st sc' eq;
+        long = stamped_long cl ss share_few share_slotted sc es (start_of_share t f) (suc f) long lim below st sc' eq;
       }

@@ -1,7 +1,7 @@
 -- What the steps that make the names promise each other. Definitions only.
 use Rattle.std.specs.Prelude.{◌≡◌, cond, List, [], ◌∷◌, ℕ, zero, suc, ◌+◌, ◌*◌, ◌≤◌, ◌<◌, length, get_or, set, ltb, leb, eqb}
 use Rattle.tables.specs.Semantic.{symbol_kind, parent_of}
-use Rattle.pool.specs.Names.{Semantic, function_count, share_start_lem, index_of, upvalue_symbols, Names, no_names, names}
+use Rattle.pool.specs.Names.{Semantic, function_count, start_of_share, index_of, upvalue_symbols, Names, no_names, names}
 use Rattle.pool.specs.Scope.{OWNER, LOCALS, GLOBALS, UPVALUES, owner_of, index_in, stamps}
 use Rattle.pool.specs.NameWords.{entries_of, put_span, span_for, span_of, captured_as, made, entries_laid}
 use Rattle.pool.specs.declared.spans.Span.{Span}
@@ -43,7 +43,7 @@ pub record Fits (t : Semantic) (entries spans : ℕ) : Type 0 where
   pub members_limit : length t.members ≤ 1024
   pub entries_room : length t.members * 3 ≤ entries
   pub spans_room : function_count t * 4 ≤ spans
-  pub counted : share_start_lem t (function_count t) ≡ length t.members
+  pub counted : start_of_share t (function_count t) ≡ length t.members
   pub symbols_limit : (m : ℕ) → m < length t.members → get_or t.members m 0 < 1024
 
 -- a function's parent as an owner: a parent comes before its children, as names-upto has it, and any other number is none

@@ -2,7 +2,7 @@
 -- function by function; beside them for each function where its names start and how many of each sort they are. Definitions only.
 use Rattle.std.specs.Prelude.{Bool, true, cond, ◌&&◌, List, [], ◌∷◌, ◌++◌, ℕ, suc, ◌+◌, ◌*◌, length, get_or, drop, ltb, leb, eqb}
 use Rattle.std.proofs.lemmas.List.Edits.{sets}
-use Rattle.pool.specs.Names.{Semantic, function_count, share_start_lem, Upvalue, upvalue_symbols, Names, Place, at, nowhere, Access, local, global, upvalue, missing}
+use Rattle.pool.specs.Names.{Semantic, function_count, start_of_share, Upvalue, upvalue_symbols, Names, Place, at, nowhere, Access, local, global, upvalue, missing}
 use Rattle.pool.specs.Names.{is_global, index_of, names_upto}
 use Rattle.pool.specs.Scope.{LOCALS, GLOBALS, UPVALUES}
 use Rattle.pool.specs.Consts.{put3}
@@ -120,7 +120,7 @@ fits t entries spans =
     && (leb (length t.members) 1024
     && (leb (length t.members * 3) entries
     && (leb (function_count t * 4) spans
-    && (eqb (share_start_lem t (function_count t)) (length t.members) && under 1024 t.members))))
+    && (eqb (start_of_share t (function_count t)) (length t.members) && under 1024 t.members))))
 
 -- the lent words after the names are made
 unfoldable pub entries_after : Semantic → List ℕ → List ℕ → List ℕ

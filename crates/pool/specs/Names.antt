@@ -25,12 +25,12 @@ function_count t = pairs t.functions
 abbrev pub parent : Semantic → ℕ → ℕ
 parent t f = parent_of t.functions f
 
-abbrev pub member_count_lem : Semantic → ℕ → ℕ
-member_count_lem t f = member_count t.functions f
+abbrev pub count_of_members : Semantic → ℕ → ℕ
+count_of_members t f = member_count t.functions f
 
 -- "6 members: symbols, each function's share in turn"
-abbrev pub share_start_lem : Semantic → ℕ → ℕ
-share_start_lem t f = share_start t.functions f
+abbrev pub start_of_share : Semantic → ℕ → ℕ
+start_of_share t f = share_start t.functions f
 
 abbrev pub share : Semantic → ℕ → List ℕ
 share t f = share_of t.functions t.members f

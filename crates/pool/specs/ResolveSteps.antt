@@ -5,7 +5,7 @@ use Rattle.tables.specs.Forest.{next}
 use Rattle.tables.specs.Naming.{Joined}
 use Rattle.tables.specs.Scratch.{Handed}
 use Rattle.tables.specs.Semantic.{pairs, member_count, share_start}
-use Rattle.pool.specs.Names.{Semantic, semantic, function_count, share_start_lem, names, load, store}
+use Rattle.pool.specs.Names.{Semantic, semantic, function_count, start_of_share, names, load, store}
 use Rattle.pool.specs.Scope.{OWNERS, owner_of, Chain, idents, inners, last}
 use Rattle.pool.specs.NameWords.{words_of, entries_of, span_words, span_for}
 use Rattle.pool.specs.NameSteps.{Stands, Fits, parent_owner, Shown}
@@ -77,9 +77,9 @@ pub record Made (t : Semantic) (done : ℕ → Type 0) (ws₀ sp₀ ws sp : List
   pub spans_long : length sp ≡ length sp₀
   pub entries_past : (j : ℕ) → length t.members * 3 ≤ j → get_or ws j 0 ≡ get_or ws₀ j 0
   pub spans_past : (j : ℕ) → function_count t * 4 ≤ j → get_or sp j 0 ≡ get_or sp₀ j 0
-  pub starts : (f : ℕ) → f < function_count t → get_or sp (f * 4) 0 ≡ share_start_lem t f
-  pub entries : (f : ℕ) → f < function_count t → done f → Stands ws (share_start_lem t f * 3) (words_of (entries_of (names t f)))
-  pub spans : (f : ℕ) → f < function_count t → done f → Stands sp (f * 4) (span_words (span_for (share_start_lem t f) (names t f)))
+  pub starts : (f : ℕ) → f < function_count t → get_or sp (f * 4) 0 ≡ start_of_share t f
+  pub entries : (f : ℕ) → f < function_count t → done f → Stands ws (start_of_share t f * 3) (words_of (entries_of (names t f)))
+  pub spans : (f : ℕ) → f < function_count t → done f → Stands sp (f * 4) (span_words (span_for (start_of_share t f) (names t f)))
 
 -- those whose parent is an owner below o
 abbrev pub MadeBelow : Semantic → ℕ → (ws₀ sp₀ ws sp : List ℕ) → Type 0

@@ -34,11 +34,11 @@ abbrev pub yield : Value
 yield = plain 8 0 0
 
 -- "equal ones are one": kind and words agree, "floats when their 64 bits agree"
-abbrev pub same_list_lem : List ℕ → List ℕ → Bool
-same_list_lem [] [] = true
-same_list_lem [] (y ∷ ys) = false
-same_list_lem (x ∷ xs) [] = false
-same_list_lem (x ∷ xs) (y ∷ ys) = eqb x y && same_list_lem xs ys
+abbrev pub same_numbers : List ℕ → List ℕ → Bool
+same_numbers [] [] = true
+same_numbers [] (y ∷ ys) = false
+same_numbers (x ∷ xs) [] = false
+same_numbers (x ∷ xs) (y ∷ ys) = eqb x y && same_numbers xs ys
 
 abbrev pub same_bool : Bool → Bool → Bool
 same_bool true true = true
@@ -50,7 +50,7 @@ abbrev pub same : Value → Value → Bool
 same (plain k p q) (plain k' p' q') = eqb k k' && (eqb p p' && eqb q q')
 same (plain k p q) (effect n ps v) = false
 same (effect n ps v) (plain k p q) = false
-same (effect n ps v) (effect n' ps' v') = eqb n n' && (same_list_lem ps ps' && same_bool v v')
+same (effect n ps v) (effect n' ps' v') = eqb n n' && (same_numbers ps ps' && same_bool v v')
 
 -- a constant with the record that brings it
 pub record Const : Type 0 where

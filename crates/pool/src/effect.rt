@@ -1,7 +1,7 @@
 // Effects by value: two Effect or Handler records bring the same constant when name, parameters and variadic agree.
 ghost use Rattle.std.specs.Prelude.{◌≡◌};
 ghost use Rattle.tables.specs.Forest.{first as first_of, next as next_of};
-ghost use Rattle.pool.specs.Value.{same, same_list_lem, same_bool, effect_at};
+ghost use Rattle.pool.specs.Value.{same, same_numbers, same_bool, effect_at};
 ghost use Rattle.pool.specs.Consts.{name_at, names_from, names_below, is_variadic};
 
 // The name string that an Effect or a Handler gives: an Effect's p, else its Ident's q.
@@ -51,7 +51,7 @@ fn parameter(records: &[u32], params: usize) -> usize
 
 // Whether two rows of siblings have the same name strings.
 fn same_names(records: &[u32], a: usize, b: usize) -> bool
-    ensures { result ≡ same_list_lem (names_from records.now a) (names_from records.now b) }
+    ensures { result ≡ same_numbers (names_from records.now a) (names_from records.now b) }
 {
     let mut x = a;
     let mut y = b;

@@ -4,19 +4,19 @@ use mathlib.Core.Bool.{Bool, true, false, ◌&&◌}
 use mathlib.Core.List.{List, [], ◌∷◌}
 use lib.Dec.{T}
 use Rattle.tables.specs.Forest.{guarded, first, next, grow, forest}
-use Rattle.pool.specs.Value.{same_list_lem, find, seen, intern}
+use Rattle.pool.specs.Value.{same_numbers, find, seen, intern}
 use Rattle.tables.specs.Semantic.{share_start}
 use Rattle.pool.specs.Names.{index_of, with_symbol, with_symbols, names_upto, names, load, store}
 use Rattle.rules.specs.declared.StackCode.TheVariants.{Code1}
 use Rattle.rules.specs.Kinds.{steps}
 use Rattle.rules.specs.Run.{emit, bump, halt, begin, finish, outward, barred, kept, nested, exec, stream, run}
-use Rattle.rules.specs.Out.{Outcome, listed, refused, consts, marker_words, const_words, plain_names, upvalue_words, error_words, loop_depth, stream_of_lem, each_function, outcome}
+use Rattle.rules.specs.Out.{Outcome, listed, refused, consts, marker_words, const_words, plain_names, upvalue_words, error_words, loop_depth, stream_numbered, each_function, outcome}
 use Rattle.rules.specs.Cases.{Case, cases, empty}
 use Rattle.rules.specs.RequestCases.{Request, requests}
 
 abbrev gives : Case → Outcome → Bool
 gives c (listed o) =
-    same_list_lem o.markers c.markers && (same_list_lem o.constants c.constants && (same_list_lem o.errors c.errors && same_list_lem o.lines c.line))
+    same_numbers o.markers c.markers && (same_numbers o.constants c.constants && (same_numbers o.errors c.errors && same_numbers o.lines c.line))
 gives c (refused x r) = false
 
 abbrev all_given : List Case → Bool
@@ -25,7 +25,7 @@ all_given (c ∷ cs) = gives c (outcome Code1 empty c.records) && all_given cs
 
 pub cases_hold : T (all_given cases)
 unfolding guarded first next grow forest find seen intern share_start index_of with_symbol with_symbols names_upto names load store steps emit bump halt begin finish
-    outward barred kept nested exec stream run consts marker_words const_words plain_names upvalue_words error_words loop_depth stream_of_lem each_function outcome
+    outward barred kept nested exec stream run consts marker_words const_words plain_names upvalue_words error_words loop_depth stream_numbered each_function outcome
 cases_hold = tt
 
 abbrev AllCome : List Request → Type 0
@@ -34,5 +34,5 @@ AllCome (c ∷ cs) = (outcome c.code c.tables c.records ≡ c.outcome) × AllCom
 
 pub requests_hold : AllCome requests
 unfolding guarded first next grow forest find seen intern share_start index_of with_symbol with_symbols names_upto names load store steps emit bump halt begin finish
-    outward barred kept nested exec stream run consts marker_words const_words plain_names upvalue_words error_words loop_depth stream_of_lem each_function outcome
+    outward barred kept nested exec stream run consts marker_words const_words plain_names upvalue_words error_words loop_depth stream_numbered each_function outcome
 requests_hold = (refl, (refl, (refl, (refl, (refl, (refl, (refl, (refl, (refl, (refl, (refl, (refl, tt))))))))))))

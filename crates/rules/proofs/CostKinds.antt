@@ -59,7 +59,7 @@ use Rattle.rules.specs.Arms.{
   block_steps,
   stream_steps,
   no_opcode,
-  is_short_lem,
+  is_short_form,
   binary_steps,
   property,
   get_code,
@@ -346,7 +346,7 @@ module _ {R : Rates} {b : Words → ℕ} {g : ℕ} (A : Afford R b g) (sc : Stac
     assign_op_paid w k e t h =
         let f = A.fixed w in
         let z = left_children A ks body k h in
-        either (is_short_lem w.detail (own_tree k)) _ _ _ _ (either (eqb w.detail 6) _ _ _ _ (omega arith) (omega arith))
+        either (is_short_form w.detail (own_tree k)) _ _ _ _ (either (eqb w.detail 6) _ _ _ _ (omega arith) (omega arith))
         (either (no_opcode w.detail) _ _ _ _ (omega arith) (omega arith))
 
     unpack_paid : Paid 26 assign_unpack_steps

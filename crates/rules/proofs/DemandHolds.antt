@@ -12,7 +12,7 @@ use Rattle.pool.specs.Names.{Semantic, names}
 use Rattle.rules.specs.declared.StackCode.{StackCode}
 use Rattle.rules.specs.Marker.{Mark}
 use Rattle.rules.specs.Run.{look, Loop, Stream, side, run}
-use Rattle.rules.specs.Out.{consts, marker_words, stream_of_lem}
+use Rattle.rules.specs.Out.{consts, marker_words, stream_numbered}
 use Rattle.rules.specs.Counts.{labels_counted}
 use Rattle.rules.specs.Around.{Around}
 use Rattle.rules.specs.Demand.{code, operand, Labels, Loops, Constants, WithinFound, FunctionSound, Demand3, record_of}
@@ -116,4 +116,4 @@ module _ (sc : StackCode) (t : Semantic) (recs : List ℕ) (rooted : (words recs
       let a = run_stream sc (look t) recs (λ x. Sound t recs x) (λ r n. stream_sound sc t recs r) rooted c f h in
       let b = stream_found (λ x. AllKnown e.met x.marks) e.streams f (run_known sc (look t) recs)
       (omega (arith, run_numbered sc (look t) recs f, inside_at 0 e.met f (omega arith) (omega arith))) in
-      function_sound e.met f (stream_of_lem e.streams f) a.0 a.1 b.0 (met_counted sc (look t) recs rooted shaped c f h)
+      function_sound e.met f (stream_numbered e.streams f) a.0 a.1 b.0 (met_counted sc (look t) recs rooted shaped c f h)

@@ -46,7 +46,7 @@ use Rattle.rules.specs.Arms.{
   block_from,
   fn_steps,
   no_opcode,
-  is_short_lem,
+  is_short_form,
   property,
   safe_jump,
   get_code,
@@ -459,11 +459,11 @@ module _ (t : Lookup) (fn : Words) (r : ℕ) (w₀ : Words) (f : Forest) (ks : R
         let g = fits_two Left expression N u in
         omega (arith, all_of 2 g.wide, h.visits a 0 (q (kind_at N 0) g.is0), seen expression tt 1 g.is1)
 
-    pub assign_op_count : (w : Words) → T (fits (one Left ∷ one expression ∷ []) (node_words N)) → count (assign_op_steps w N) ≡ cond (is_short_lem w.detail N) 1 0 + all
+    pub assign_op_count : (w : Words) → T (fits (one Left ∷ one expression ∷ []) (node_words N)) → count (assign_op_steps w N) ≡ cond (is_short_form w.detail N) 1 0 + all
     unfolding seg_count
     assign_op_count w u =
         let e = assign_count u Before (λ n v. v) in
-        counted_if (is_short_lem w.detail N) _ _
+        counted_if (is_short_form w.detail N) _ _
         (either (eqb w.detail 6) _ _ (1 + all) (omega (arith, e, h.afters 0)) (omega (arith, e, h.afters 0)))
         (either (no_opcode w.detail) _ _ (0 + all) (omega (arith, e)) (omega (arith, e, h.afters 0)))
 

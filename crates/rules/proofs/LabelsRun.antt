@@ -18,7 +18,7 @@ use Rattle.rules.specs.Arms.{stream_steps}
 use Rattle.rules.specs.Kinds.{steps}
 use Rattle.rules.specs.Counts.{labels_counted}
 use Rattle.rules.specs.Run.{Lookup, Stream, side, run}
-use Rattle.rules.specs.Out.{stream_of_lem}
+use Rattle.rules.specs.Out.{stream_numbered}
 use Rattle.rules.proofs.Segment.{Seg, no_seg, finished, seg_made, child_seg, segs_of, seg_of, body_seg}
 use Rattle.rules.proofs.Count.{inside_at}
 use Rattle.rules.proofs.StepsOk.{function_only}
@@ -113,7 +113,7 @@ module _ (sc : StackCode) (t : Lookup) (recs : List ℕ) where
 
   -- and that of each function met, by its number
   pub met_counted : (words recs 0).kind ≡ 30 → Shaped (root recs) → Clean (run sc t recs) → (n : ℕ) → n < (side (run sc t recs)).met
-      → LabelsCounted (stream_of_lem (side (run sc t recs)).streams n)
+      → LabelsCounted (stream_numbered (side (run sc t recs)).streams n)
   met_counted e m c n h =
       (stream_found LabelsCounted (side (run sc t recs)).streams n (run_counted e m c)
       (omega (arith, run_numbered sc t recs n, inside_at 0 (side (run sc t recs)).met n (omega arith) (omega arith)))).0

@@ -21,7 +21,7 @@ use Rattle.rules.specs.MarkerCount.{step_markers, list_markers, child_markers, m
 use Rattle.rules.specs.declared.Flow.{Flow}
 use Rattle.rules.specs.declared.Flow.TheVariants.{Go, Cut, Refused}
 use Rattle.rules.specs.Run.{Lookup, Loop, loop, Stream, Side, State, st, marks, side, emit, bump, halt, begin, finish, way_kind, outward, barred, number_of, spot_at, sought, settle, kept, anew, returned, entered, nested, idle, keeping, full, act, exec, child_visit, stream, visits_of, nothing, run}
-use Rattle.rules.specs.Out.{stream_of_lem}
+use Rattle.rules.specs.Out.{stream_numbered}
 use Rattle.rules.proofs.Count.{inside_at}
 use Rattle.rules.proofs.StepsOk.{function_only}
 use Rattle.rules.proofs.Writes.{Clean, Clean-back, writes_clean, cut_go, refused_go, settle_same, settle_clean, entered_body, clean_back}
@@ -284,7 +284,7 @@ module _ (sc : StackCode) (t : Lookup) (recs : List ℕ) where
       (function_told 0 (words recs 0) k (each Tally tally_step k) refl refl (genuine recs (first recs 0)) nothing c tt).1
 
   -- and that of each function met, by its number
-  pub met_markers : Clean (run sc t recs) → (n : ℕ) → n < (side (run sc t recs)).met → Counted (stream_of_lem (side (run sc t recs)).streams n)
+  pub met_markers : Clean (run sc t recs) → (n : ℕ) → n < (side (run sc t recs)).met → Counted (stream_numbered (side (run sc t recs)).streams n)
   met_markers c n h =
       (stream_found Counted (side (run sc t recs)).streams n (run_markers c)
       (omega (arith, run_numbered sc t recs n, inside_at 0 (side (run sc t recs)).met n (omega arith) (omega arith)))).0

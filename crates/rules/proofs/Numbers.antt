@@ -79,7 +79,7 @@ use Rattle.rules.specs.Run.{
   nothing,
   run,
 }
-use Rattle.rules.specs.Out.{stream_of_lem}
+use Rattle.rules.specs.Out.{stream_numbered}
 use Rattle.rules.proofs.Count.{one, inside, inside_add}
 use Rattle.rules.proofs.Visits.{visit_of}
 
@@ -266,12 +266,12 @@ Every P [] = Unit {0}
 Every P (x ∷ xs) = P x × Every P xs
 
 -- the stream of a number that has one
-pub stream_found : (P : Stream → Type 0) (xs : List Stream) (n : ℕ) → Every P xs → 1 ≤ numbered n xs → P (stream_of_lem xs n) × ((stream_of_lem xs n).number ≡ n)
-unfolding stream_of_lem one
+pub stream_found : (P : Stream → Type 0) (xs : List Stream) (n : ℕ) → Every P xs → 1 ≤ numbered n xs → P (stream_numbered xs n) × ((stream_numbered xs n).number ≡ n)
+unfolding stream_numbered one
 stream_found P [] n h g = absurd (omega arith)
 stream_found P (x ∷ xs) n (h, hs) g = go (eqb x.number n) refl g (λ g. stream_found P xs n hs g)
   where
-    go : (b : Bool) → eqb x.number n ≡ b → 1 ≤ cond b 1 0 + numbered n xs → (1 ≤ numbered n xs → P (stream_of_lem xs n) × ((stream_of_lem xs n).number ≡ n))
-        → P (cond b x (stream_of_lem xs n)) × ((cond b x (stream_of_lem xs n)).number ≡ n)
+    go : (b : Bool) → eqb x.number n ≡ b → 1 ≤ cond b 1 0 + numbered n xs → (1 ≤ numbered n xs → P (stream_numbered xs n) × ((stream_numbered xs n).number ≡ n))
+        → P (cond b x (stream_numbered xs n)) × ((cond b x (stream_numbered xs n)).number ≡ n)
     go true e g ih = (h, eqb→eq x.number n (subst T (sym e) tt))
     go false e g ih = ih (omega arith)

@@ -15,7 +15,7 @@ use Rattle.pool.specs.Names.{Semantic}
 use Rattle.rules.specs.declared.StackCode.{StackCode}
 use Rattle.rules.specs.Marker.{Mark, mark}
 use Rattle.rules.specs.Run.{Lookup, look, Error, error, Stream, side, run}
-use Rattle.rules.specs.Out.{consts, code_word, operand_word, marker_words, const_words, error_words, line_words, stream_of_lem, each_function, out}
+use Rattle.rules.specs.Out.{consts, code_word, operand_word, marker_words, const_words, error_words, line_words, stream_numbered, each_function, out}
 use Rattle.rules.proofs.Count.{one, inside_at}
 use Rattle.rules.proofs.Numbers.{numbered, run_numbered}
 use Rattle.rules.proofs.Bounds.{total, marker_count, constant_count, function_count, Bounds}
@@ -65,32 +65,32 @@ module _ (f : Stream → ℕ) where
   found_most [] m = omega (arith, found_none m)
   found_most (x ∷ xs) m = omega (arith, instead_most x.number (f x) (found xs) m, found_most xs m)
 
-  found_one : (xs : List Stream) (n : ℕ) → 1 ≤ numbered n xs → found xs n ≡ f (stream_of_lem xs n)
-  unfolding stream_of_lem one
+  found_one : (xs : List Stream) (n : ℕ) → 1 ≤ numbered n xs → found xs n ≡ f (stream_numbered xs n)
+  unfolding stream_numbered one
   found_one [] n p = absurd (omega arith)
   found_one (x ∷ xs) n p = go (eqb x.number n) p (λ p. found_one xs n p)
     where
-      go : (b : Bool) → 1 ≤ cond b 1 0 + numbered n xs → (1 ≤ numbered n xs → found xs n ≡ f (stream_of_lem xs n))
-          → cond b (f x) (found xs n) ≡ f (cond b x (stream_of_lem xs n))
+      go : (b : Bool) → 1 ≤ cond b 1 0 + numbered n xs → (1 ≤ numbered n xs → found xs n ≡ f (stream_numbered xs n))
+          → cond b (f x) (found xs n) ≡ f (cond b x (stream_numbered xs n))
       go true p ih = refl
       go false p ih = ih (omega arith)
 
   -- the functions met, in order of their numbers, are no more together than all streams
   pub by_number : (sc : StackCode) (t : Lookup) (recs : List ℕ) (m : ℕ) → m ≤ (side (run sc t recs)).met
-      → sum m (λ n. f (stream_of_lem (side (run sc t recs)).streams n)) ≤ total f (side (run sc t recs)).streams
+      → sum m (λ n. f (stream_numbered (side (run sc t recs)).streams n)) ≤ total f (side (run sc t recs)).streams
   by_number sc t recs m p =
       let xs = (side (run sc t recs)).streams in
       omega (
         arith,
         found_most xs m,
-        sum_same m (found xs) (λ n. f (stream_of_lem xs n))
+        sum_same m (found xs) (λ n. f (stream_numbered xs n))
             (λ n q. found_one xs n (omega (arith, run_numbered sc t recs n, inside_at 0 (side (run sc t recs)).met n (omega arith) (omega arith)))),
       )
 
-each_length : (f : Stream → List ℕ) (xs : List Stream) (m : ℕ) → length (each_function f xs m) ≡ sum m (λ n. length (f (stream_of_lem xs n)))
+each_length : (f : Stream → List ℕ) (xs : List Stream) (m : ℕ) → length (each_function f xs m) ≡ sum m (λ n. length (f (stream_numbered xs n)))
 unfolding each_function sum
 each_length f xs zero = refl
-each_length f xs (suc m) = omega (arith, length-append (each_function f xs m) (f (stream_of_lem xs m)), each_length f xs m)
+each_length f xs (suc m) = omega (arith, length-append (each_function f xs m) (f (stream_numbered xs m)), each_length f xs m)
 
 marker_length : (cs : List Const) (ms : List Mark) (ws : List ℕ) → length (marker_words cs ms ws) ≡ 2 * length ms + length ws
 unfolding marker_words
@@ -115,7 +115,7 @@ constants_total : (xs : List Stream) → total (λ x. length (const_words (const
 constants_total [] = refl
 constants_total (x ∷ xs) = omega (arith, const_length (consts x.marks), constants_total xs)
 
-lines_total : (t : Semantic) (recs : List ℕ) (xs : List Stream) (m : ℕ) → sum m (λ n. length (line_words t recs (stream_of_lem xs n))) ≡ 7 * m
+lines_total : (t : Semantic) (recs : List ℕ) (xs : List Stream) (m : ℕ) → sum m (λ n. length (line_words t recs (stream_numbered xs n))) ≡ 7 * m
 unfolding sum
 lines_total t recs xs zero = refl
 lines_total t recs xs (suc m) = omega (arith, lines_total t recs xs m)

@@ -52,7 +52,7 @@ use Rattle.rules.specs.Arms.{
   unary_code,
   binary_code,
   no_opcode,
-  is_short_lem,
+  is_short_form,
   get_code,
   set_code,
   property,
@@ -334,7 +334,7 @@ module _ (top : ℕ) where
   assign_ops_tame : (w : Words) (k : Nodes) → Tame (assign_op_steps w k)
   unfolding tame
   assign_ops_tame w k =
-      either (is_short_lem w.detail k) _ _ (either (eqb w.detail 6) _ _ tt tt)
+      either (is_short_form w.detail k) _ _ (either (eqb w.detail 6) _ _ tt tt)
       (either (no_opcode w.detail) _ _ tt (coded (binary_code w.detail) (binary_pure w.detail)))
 
   imports_tame : (w : Words) (k : Nodes) → Tame (import_steps w k)

@@ -35,7 +35,7 @@ use Rattle.rules.specs.Step.{
 }
 use Rattle.rules.specs.Kinds.{steps}
 use Rattle.rules.specs.Run.{Lookup, Stream, side, run}
-use Rattle.rules.specs.Out.{stream_of_lem}
+use Rattle.rules.specs.Out.{stream_numbered}
 use Rattle.rules.proofs.Segment.{Seg, no_seg, finished, seg_made, child_seg, segs_of, seg_of, body_seg}
 use Rattle.rules.proofs.StepsOk.{function_only}
 use Rattle.rules.proofs.Tame.{no_name, no_function, pure}
@@ -130,7 +130,7 @@ module _ (sc : StackCode) (t : Lookup) (recs : List ℕ) (P : Stream → Type 0)
 
     -- and of the stream of each function met, by its number
     pub run_stream : Clean (run sc t recs) → (n : ℕ) → n < (side (run sc t recs)).met
-        → P (stream_of_lem (side (run sc t recs)).streams n) × ((stream_of_lem (side (run sc t recs)).streams n).number ≡ n)
+        → P (stream_numbered (side (run sc t recs)).streams n) × ((stream_numbered (side (run sc t recs)).streams n).number ≡ n)
     run_stream c n h =
         stream_found P (side (run sc t recs)).streams n (run_streams c)
         (omega (arith, run_numbered sc t recs n, inside_at 0 (side (run sc t recs)).met n (omega arith) (omega arith)))

@@ -303,8 +303,8 @@ abbrev pub assign_steps : Words → Nodes → List Step
 assign_steps w k = expr 1 ∷ visit pass Target 0 ∷ null ∷ []
 
 -- `and=` and `or=` "with an Ident on the left" (document 02, job 1): 0 is a Left's detail for an Ident
-abbrev pub is_short_lem : ℕ → Nodes → Bool
-is_short_lem d k = eqb (child k 0).detail 0 && (eqb d 5 || eqb d 6)
+abbrev pub is_short_form : ℕ → Nodes → Bool
+is_short_form d k = eqb (child k 0).detail 0 && (eqb d 5 || eqb d 6)
 
 -- "load it, emit JumpIfFalseOrPop (for And) or JumpIfTrueOrPop (for Or) to a label taken before the load, visit the right side, place the label, store, and load Null"
 abbrev pub short_assign_steps : Forward → List Step
@@ -313,7 +313,7 @@ short_assign_steps h = get_label ∷ visit pass Before 0 ∷ jump h 0 ∷ expr 1
 -- ExprKind::AssignOp; "Member lefts and Is are still number 13"
 abbrev pub assign_op_steps : Words → Nodes → List Step
 assign_op_steps w k =
-    cond (is_short_lem w.detail k)
+    cond (is_short_form w.detail k)
     (cond (eqb w.detail 6) (short_assign_steps JumpIfTrueOrPop) (short_assign_steps JumpIfFalseOrPop))
     (cond (no_opcode w.detail) (visit pass Before 0 ∷ expr 1 ∷ refuse Operator ∷ [])
     (visit pass Before 0 ∷ expr 1 ∷ push_op (binary_code w.detail) 0 ∷ visit pass After 0 ∷ null ∷ []))

@@ -7,7 +7,7 @@ use Rattle.tables.specs.Forest.{Nodes, bare, node}
 use Rattle.tables.specs.Details.{of_kind, row}
 use Rattle.rules.specs.declared.StackCode.{StackCode}
 use Rattle.rules.specs.declared.StackCode.TheVariants.{Code1, Code2}
-use Rattle.rules.specs.Arms.{is_short_lem, unlabelled}
+use Rattle.rules.specs.Arms.{is_short_form, unlabelled}
 use Rattle.rules.specs.Patterns.{is_nested}
 
 -- how many of some nodes are Handlers
@@ -45,7 +45,7 @@ unfoldable pub own_labels : StackCode → Words → Nodes → ℕ
 own_labels sc w k =
     of_kind w.kind
     (row 10 (cond (eqb w.detail 5 || eqb w.detail 6) 1 0) ∷ row 12 (cond (unlabelled sc w.detail) 0 1) ∷ row 13 (call_labels (handler_count k)) ∷ row 14 2
-    ∷ row 15 (suc (case_sum k)) ∷ row 16 2 ∷ row 17 2 ∷ row 18 3 ∷ row 21 (return_labels sc) ∷ row 25 (cond (is_short_lem w.detail k) 1 0) ∷ []) 0
+    ∷ row 15 (suc (case_sum k)) ∷ row 16 2 ∷ row 17 2 ∷ row 18 3 ∷ row 21 (return_labels sc) ∷ row 25 (cond (is_short_form w.detail k) 1 0) ∷ []) 0
 
 -- and of all records of a function's own tree
 unfoldable pub labels_counted : StackCode → Nodes → ℕ

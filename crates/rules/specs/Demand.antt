@@ -13,7 +13,7 @@ use Rattle.pool.specs.Names.{Semantic, Names, Upvalue, names, parent}
 use Rattle.rules.specs.declared.StackCode.{StackCode}
 use Rattle.rules.specs.Marker.{Mark, mark, Label}
 use Rattle.rules.specs.Run.{Loop, loop, Stream, Side}
-use Rattle.rules.specs.Out.{consts, marker_words, stream_of_lem}
+use Rattle.rules.specs.Out.{consts, marker_words, stream_numbered}
 use Rattle.rules.specs.Around.{Around}
 use Rattle.rules.specs.Counts.{labels_counted}
 
@@ -122,4 +122,4 @@ pub record FunctionSound (sc : StackCode) (t : Semantic) (recs : List ℕ) (met 
 
 -- "for each function"
 abbrev pub Demand3 : StackCode → Semantic → List ℕ → Side → Type 0
-Demand3 sc t recs e = (f : ℕ) → f < e.met → FunctionSound sc t recs e.met f (stream_of_lem e.streams f)
+Demand3 sc t recs e = (f : ℕ) → f < e.met → FunctionSound sc t recs e.met f (stream_numbered e.streams f)

@@ -211,14 +211,14 @@ line_words t recs x =
 abbrev pub no_stream : Stream
 no_stream = record { number = 0; at = 0; labels = 0; marks = []; opened = [] }
 
-unfoldable pub stream_of_lem : List Stream → ℕ → Stream
-stream_of_lem [] n = no_stream
-stream_of_lem (x ∷ xs) n = cond (eqb x.number n) x (stream_of_lem xs n)
+unfoldable pub stream_numbered : List Stream → ℕ → Stream
+stream_numbered [] n = no_stream
+stream_numbered (x ∷ xs) n = cond (eqb x.number n) x (stream_numbered xs n)
 
 -- "for each function met, always the lowest numbers": some words of each of the first n functions, in order
 unfoldable pub each_function : (Stream → List ℕ) → List Stream → ℕ → List ℕ
 each_function f xs zero = []
-each_function f xs (suc n) = each_function f xs n ++ f (stream_of_lem xs n)
+each_function f xs (suc n) = each_function f xs n ++ f (stream_numbered xs n)
 
 -- the five outputs
 pub record Out : Type 0 where

@@ -67,7 +67,7 @@ use Rattle.rules.specs.Arms.{
   return_steps,
   target_steps,
   before_steps,
-  is_short_lem,
+  is_short_form,
   short_assign_steps,
   assign_op_steps,
   assign_unpack_steps,
@@ -334,7 +334,7 @@ module _ (e : Lent) (c : Walk) (r : ℕ) where
       go false = refl
 
   -- `and=` and `or=`, and the other operators: where one is refused, nothing is done behind it
-  pub short_run : {o : BinOp} → o ≡ binary_of W.detail → is_short_lem W.detail K ≡ true → (A : State)
+  pub short_run : {o : BinOp} → o ≡ binary_of W.detail → is_short_form W.detail K ≡ true → (A : State)
       → does e c r (assign_op_steps W K) A ≡ does e c r (short_assign_steps (short_jump o)) A
   short_run {o} p q A =
       ap (λ (is : List Step). does e c r is A) (on_true _ _ _ q ∙ go (eqb W.detail 6))
@@ -344,7 +344,7 @@ module _ (e : Lent) (c : Walk) (r : ℕ) where
       go true = refl
       go false = refl
 
-  pub update_run : is_short_lem W.detail K ≡ false → (A : State)
+  pub update_run : is_short_form W.detail K ≡ false → (A : State)
       → does e c r (assign_op_steps W K) A
       ≡ emit (mark r (Load LoadConst Null)) (near e c r After 0 (operated (near e c r Expr 1 (near e c r Before 0 A))))
   unfolding does doing exec

@@ -1,6 +1,6 @@
 use mathlib.Core.Path.{sym, ap₂, ◌∙◌}
 use Prim.Native.Nat.{ℕ}
-use Rattle.pool.specs.Value.{same_list_lem}
+use Rattle.pool.specs.Value.{same_numbers}
 use Rattle.pool.specs.Consts.{names_from}
 use Rattle.pool.proofs.EffectLaws.{alike_short, alike_other, alike_next, alike_end, reach_falls}
 use Rattle.pool.proofs.effect.same_names.Goals as goal
@@ -29,7 +29,7 @@ loop-x-preserved c =
     let a = c.args in
     let w = c.loop-x in
     let test = c.loop-x-test in
-    ap₂ (λ (x y : ℕ). same_list_lem (names_from a.records.now x) (names_from a.records.now y)) c.next-x.ensures c.next-y.ensures ∙
+    ap₂ (λ (x y : ℕ). same_numbers (names_from a.records.now x) (names_from a.records.now y)) c.next-x.ensures c.next-y.ensures ∙
     alike_next a.records.now _ _ test.true c.if-y-eq0.false (sym c.q.ensures ∙ c.if-q.false ∙ c.q-in-loop-x.ensures) ∙ w.invariant
 
 pub returns : goal.returns
