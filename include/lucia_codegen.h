@@ -1,4 +1,4 @@
-/* The code generator's call, as the static library exports it (rt staticlib codegen).
+/* The code generator's call, as the static library exports it (tools/staticlib).
  *
  * Tables and outputs are arrays of words, each lent as a pointer and its length in elements; docs/REFUSALS.md explains every number.
  * The call reads the tables and writes the outputs and nothing else. It takes up to about 2.5 MB of stack.

@@ -11,7 +11,7 @@ fn main() {
     println!("cargo::rerun-if-changed={}", library.display());
     if !library.is_file() {
         println!(
-            "cargo::warning=no {}: run `rt staticlib codegen`, or set LUCIA_CODEGEN_LIB",
+            "cargo::warning=no {}: run `tools/staticlib`, or set LUCIA_CODEGEN_LIB",
             library.display()
         );
     }

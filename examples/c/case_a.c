@@ -1,6 +1,6 @@
 /* Case A, a Function with an empty body: prints its answer and its markers.
  *
- *   rt staticlib codegen
+ *   tools/staticlib
  *   cc -I include examples/c/case_a.c target/staticlib/libcodegen.a -o case_a && ./case_a
  */
 #include <inttypes.h>

@@ -5,7 +5,7 @@ set -e
 here=$(cd "$(dirname "$0")" && pwd)
 root=$here/../..
 library=${LUCIA_CODEGEN_LIB:-$root/target/staticlib}/libcodegen.a
-[ -f "$library" ] || { echo "no $library: run rt staticlib codegen"; exit 1; }
+[ -f "$library" ] || { echo "no $library: run tools/staticlib"; exit 1; }
 made=$(mktemp -d)
 trap 'rm -rf "$made"' EXIT
 ${CC:-cc} -std=c99 -Wall -Wextra -Werror -pedantic -I "$root/include" "$here/case_a.c" "$library" -o "$made/case_a"
