@@ -1,7 +1,11 @@
 -- What the call answers, from what its parts leave. Assumes nothing.
+use mathlib.Core.Logic.{inl, inr}
+use Rattle.rules.specs.contracts.Flow.{the_type as flow-type}
+use denote.Enum.Declared.{tag_of}
+use types.Run.{OneOf}
 use mathlib.Core.Path.{◌≡◌, refl, sym, ap, subst, subst⁻¹, ◌∙◌}
 use mathlib.Core.Bool.{Bool, true, false}
-use mathlib.Core.List.{List}
+use mathlib.Core.List.{List, [], ◌∷◌}
 use Prim.Native.Nat.{ℕ, ◌*◌, ◌≤◌, ◌<◌}
 use native.Mathlib.Omega.{arith}
 use lib.ListN.{length}
@@ -56,10 +60,20 @@ pub same_listing : (n m c e s k : ℕ) → n ≡ m → c ≡ e → s ≡ k → L
 same_listing n m c e s k p q r = rw (p, q, r)
 
 -- of the three ways that a run ends, the first two are listings
-pub tag_runs : (f : Flow) → ((rule : RunRule) (r : ℕ) → f ≡ Halted rule r → ⊥) → Runs f
+pub tag_runs : (f : Flow) → OneOf (0 ∷ 1 ∷ []) (tag_of flow-type f) → Runs f
 tag_runs Go h = tt
 tag_runs (Cut k a b) h = tt
-tag_runs (Halted x r) h = absurd (h x r refl)
+tag_runs (Halted x r) h = two h
+  where
+    two : OneOf (0 ∷ 1 ∷ []) 2 → ⊥
+    two (inl e) = omega arith
+    two (inr e) = omega arith
+
+-- .. so one that is not refused is a listing
+pub unrefused_runs : (f : Flow) → ((rule : RunRule) (r : ℕ) → f ≡ Halted rule r → ⊥) → Runs f
+unrefused_runs Go h = tt
+unrefused_runs (Cut k a b) h = tt
+unrefused_runs (Halted x r) h = absurd (h x r refl)
 
 -- ---- a run that is refused
 
@@ -107,11 +121,17 @@ module _ (symbols references functions members recs : List ℕ) (sound : Sound s
     pub flow_ran : f ≡ flow (ran t recs)
     flow_ran = flow_noted ∙ ap flow (noted_same t ns recs noted)
 
-    pub runs_noted : ((rule : RunRule) (r : ℕ) → f ≡ Halted rule r → ⊥) → Runs (flow (noted_run ns recs))
+    pub runs_noted : OneOf (0 ∷ 1 ∷ []) (tag_of flow-type f) → Runs (flow (noted_run ns recs))
     runs_noted h = subst Runs flow_noted (tag_runs f h)
 
-    pub runs_ran : ((rule : RunRule) (r : ℕ) → f ≡ Halted rule r → ⊥) → Runs (flow (ran t recs))
+    pub runs_ran : OneOf (0 ∷ 1 ∷ []) (tag_of flow-type f) → Runs (flow (ran t recs))
     runs_ran h = subst Runs flow_ran (tag_runs f h)
+
+    pub unrefused_noted : ((rule : RunRule) (r : ℕ) → f ≡ Halted rule r → ⊥) → Runs (flow (noted_run ns recs))
+    unrefused_noted h = subst Runs flow_noted (unrefused_runs f h)
+
+    pub unrefused_ran : ((rule : RunRule) (r : ℕ) → f ≡ Halted rule r → ⊥) → Runs (flow (ran t recs))
+    unrefused_ran h = subst Runs flow_ran (unrefused_runs f h)
 
   module _ (entries spans : List ℕ) (named : Named t entries spans) (markers constants names errors lines : List ℕ)
       (roomy : Roomy t recs (lists markers constants names errors lines)) where

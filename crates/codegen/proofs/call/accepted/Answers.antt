@@ -1,5 +1,5 @@
 use Prim.Native.Nat.{ℕ}
-use Rattle.codegen.proofs.CallLaws.{flow_ran, listable_of, listed_answered, names_made, notes_made, refused_answered, runs_noted, runs_ran}
+use Rattle.codegen.proofs.CallLaws.{flow_ran, listable_of, listed_answered, names_made, notes_made, refused_answered, unrefused_noted, unrefused_ran}
 use Rattle.pool.proofs.ResolveLaws.{blank_zeros}
 use Rattle.codegen.proofs.ReadyLaws.{ready_of, walkable_of}
 use Rattle.pool.specs.Names.{semantic}
@@ -32,7 +32,7 @@ listed-requires c =
     (length-replicate {A = ℕ} 3072 0) (length-replicate {A = ℕ} 1024 0) (blank_zeros (replicate 12288 0) refl) c.resolve.ensures in
     let named = names_made c.args.symbols.now c.args.references.now c.args.functions.now c.args.members.now c.args.recs.now c.requires.sound _ _ _ _ _ _
     (length-replicate {A = ℕ} 3072 0) (length-replicate {A = ℕ} 1024 0) (blank_zeros (replicate 12288 0) refl) c.resolve.ensures in
-    let runs = runs_noted c.args.symbols.now c.args.references.now c.args.functions.now c.args.members.now c.args.recs.now c.requires.sound _ noted _ c.judge.ensures _
+    let runs = unrefused_noted c.args.symbols.now c.args.references.now c.args.functions.now c.args.members.now c.args.recs.now c.requires.sound _ noted _ c.judge.ensures _
     c.flow.ensures c.in_default.not-Refused in record {
       ready = ready_of c.args.symbols.now c.args.references.now c.args.functions.now c.args.members.now c.args.recs.now c.requires.sound _
           noted (λ j. omega (arith, c.type_inv.recs j)) runs;
@@ -49,5 +49,5 @@ returns c =
     (length-replicate {A = ℕ} 3072 0) (length-replicate {A = ℕ} 1024 0) (blank_zeros (replicate 12288 0) refl) c.resolve.ensures in
     listed_answered c.args.symbols.now c.args.references.now c.args.functions.now c.args.members.now c.args.recs.now c.requires.sound _
     _ named _ _ _ _ _ c.requires.roomy _ _
-    (runs_ran c.args.symbols.now c.args.references.now c.args.functions.now c.args.members.now c.args.recs.now c.requires.sound _ noted
+    (unrefused_ran c.args.symbols.now c.args.references.now c.args.functions.now c.args.members.now c.args.recs.now c.requires.sound _ noted
     _ c.judge.ensures _ c.flow.ensures c.in_default.not-Refused) _ noted c.listed.ensures
