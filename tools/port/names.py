@@ -168,6 +168,21 @@ def better(root):
                 it.write(to)
 
 
+def aliases(root):
+    """Names that an import gives, as `nesting as nestingOf`, follow the rule too, in their file."""
+    for path in files(root, ".antt", ".rt"):
+        text = to = read(path)
+        for old in set(re.findall(r"\bas ([a-z][a-z0-9_']*[A-Z][\w']*)", text)):
+            new = re.sub(r"(?<=[a-z0-9])([A-Z])", lambda it: "_" + it[1].lower(), old)
+            if re.search(rf"(?<![\w'-]){new}(?![\w'-])", re.sub(r"\." + WORD, "", text)):
+                print(f"{path}: {old} and {new}")
+                continue
+            to = re.sub(rf"(?<![\w'-]){old}(?![\w'-])", new, to)
+        if to != text:
+            with open(path, "w", encoding="utf-8") as it:
+                it.write(to)
+
+
 def main(args):
     check = "--check" in args
     root = [it for it in args if it != "--check"][0].rstrip("/")
@@ -210,6 +225,7 @@ def main(args):
     if not check:
         moved(root)
         better(root)
+        aliases(root)
     print("\n".join(sorted(said)))
     print(f"{len(names)} names, {count} files, {len(said)} places to look at")
 

@@ -4,7 +4,7 @@ use Rattle.tables.specs.Record.{word, words, size, is_function}
 use Rattle.tables.specs.Forest.{own_tree, children}
 use Rattle.pool.specs.NameWords.{over, span_of}
 use Rattle.rules.specs.Marker.{Op, Label, To, Back, Leave, Load, Do, Mark, mark}
-use Rattle.rules.specs.Run.{Stream, State, marks as marksOf, labels as labelsOf, side as side_of}
+use Rattle.rules.specs.Run.{Stream, State, marks as marks_of, labels as labels_of, side as side_of}
 use Rattle.rules.specs.Out.{consts, marker_words, const_words, loop_depth, stream_numbered, each_function}
 use Rattle.emit.specs.Words.{limit}
 use Rattle.codegen.specs.Places.{Numbered}
@@ -53,8 +53,8 @@ pub record Own (ns recs : List ℕ) (n : ℕ) (x : Stream) : Type 0 where
   pub inside : x.at < size recs
   pub function : is_function (words recs x.at) ≡ true
   pub named : word recs x.at 2 ≡ n
-  pub marks : x.marks ≡ marksOf (single ns recs x.at)
-  pub labels : x.labels ≡ labelsOf (single ns recs x.at)
+  pub marks : x.marks ≡ marks_of (single ns recs x.at)
+  pub labels : x.labels ≡ labels_of (single ns recs x.at)
   pub small : AllSmall x.marks
   pub few : length x.marks < limit
   pub countable : x.labels ≤ limit

@@ -5,7 +5,7 @@ use Rattle.tables.specs.Forest.{children, root, levels}
 use Rattle.pool.specs.Names.{Semantic}
 use Rattle.rules.specs.declared.StackCode.{StackCode}
 use Rattle.rules.specs.declared.StackCode.TheVariants.{Code1}
-use Rattle.rules.specs.Run.{State, marks as marksOf, labels as labelsOf, flow as flow_of, side as side_of, look, run, alone}
+use Rattle.rules.specs.Run.{State, marks as marks_of, labels as labels_of, flow as flow_of, side as side_of, look, run, alone}
 use Rattle.emit.specs.Words.{cap, MARKERS, LABELS, CONSTS, ERRORS, FUNCTIONS, KEPT, SIZE, at, flow_in, cap_flow}
 use Rattle.emit.specs.Rep.{outs, lent, Room, Wrote, Scoped}
 use Rattle.emit.specs.Does.{noted_look}
@@ -44,6 +44,6 @@ pub record Walked (A : State) (frame : List ℕ) : Type 0 where
 -- one function's stream: its markers and constants are laid where there is room, and counted
 pub record Streamed (recs : List ℕ) (A : State) (code consts code' consts' frame : List ℕ) : Type 0 where
   pub sized : Sized frame
-  pub wrote : Room (outs code consts) (marksOf A) → Wrote recs (outs code consts) (marksOf A) (outs code' consts') (at frame CONSTS)
-  pub place : at frame MARKERS ≡ cap (length (marksOf A))
-  pub labels : at frame LABELS ≡ cap (labelsOf A)
+  pub wrote : Room (outs code consts) (marks_of A) → Wrote recs (outs code consts) (marks_of A) (outs code' consts') (at frame CONSTS)
+  pub place : at frame MARKERS ≡ cap (length (marks_of A))
+  pub labels : at frame LABELS ≡ cap (labels_of A)

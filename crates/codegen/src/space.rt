@@ -1,6 +1,6 @@
 // Row 2: the lent outputs by their lengths alone.
 ghost use Rattle.std.specs.Prelude.{◌≡◌, ◌<◌};
-ghost use Rattle.codegen.specs.Space.{scarce as scarceOf, space_broken};
+ghost use Rattle.codegen.specs.Space.{scarce as scarce_of, space_broken};
 
 use tables::refusal::Broken;
 
@@ -8,7 +8,7 @@ use tables::refusal::Broken;
 fn scarce(each: usize, width: usize, n: usize, words: usize) -> bool
     requires each_nonzero { 0 < each }
     requires width_nonzero { 0 < width }
-    ensures { result ≡ scarceOf each width n words }
+    ensures { result ≡ scarce_of each width n words }
 {
     words / width / each < n
 }

@@ -13,8 +13,8 @@ use Rattle.rules.specs.Run.{
   Loop,
   loop,
   State,
-  marks as marksOf,
-  labels as labelsOf,
+  marks as marks_of,
+  labels as labels_of,
   loops as loops_of,
   flow as flow_of,
   side as side_of,
@@ -86,9 +86,9 @@ Met f p n = (f ≡ cap n) × (p ≡ bit (ltb limit n))
 
 -- a frame read by places stands for a state. Open loops' labels are said where they are written, and functions met where they are counted
 pub record Reads (c : Walk) (records : List ℕ) (o₀ : Outs) (A : State) (o : Outs) (ρ : ℕ → ℕ) : Type 0 where
-  pub flat : c.nest ≡ false → Flat records o₀ (marksOf A) o (ρ MARKERS) (ρ CONSTS)
+  pub flat : c.nest ≡ false → Flat records o₀ (marks_of A) o (ρ MARKERS) (ρ CONSTS)
   pub noted : c.nest ≡ true → Noted o₀ (side_of A).errors o
-  pub labels : ρ LABELS ≡ cap (labelsOf A)
+  pub labels : ρ LABELS ≡ cap (labels_of A)
   pub loops : c.nest ≡ false → Stack ρ (loops_of A)
   pub depth : ρ DEPTH ≡ length (loops_of A)
   pub deep : length (loops_of A) ≤ KEPT

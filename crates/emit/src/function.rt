@@ -2,7 +2,7 @@
 ghost use Rattle.std.specs.Prelude.{◌≡◌, eqb};
 ghost use Rattle.tables.specs.Record.{word};
 ghost use Rattle.emit.specs.Words.{FUNCTION, at, put};
-ghost use Rattle.emit.specs.Sinks.{carry as carryOf, numbered, back_to, Enters};
+ghost use Rattle.emit.specs.Sinks.{carry as carry_of, numbered, back_to, Enters};
 
 use crate::frame::{
     Frame, depth, function, functions, labels, past, set_depth, set_function, set_functions,
@@ -30,7 +30,7 @@ pub struct Outer {
 
 // Whether a word can't count one more than met, or could not before.
 fn carry(met: u32, past: u32) -> u32
-    ensures { result ≡ carryOf met past }
+    ensures { result ≡ carry_of met past }
 {
     if met < WORD { past } else { 1 }
 }

@@ -1,6 +1,6 @@
 // The front of lent words and bytes, and the lines in it.
 ghost use Rattle.std.specs.Prelude.{◌≡◌, ◌+◌, take};
-ghost use Rattle.lister.specs.Genlist.{feed as feedOf, feeds as feedsOf};
+ghost use Rattle.lister.specs.Genlist.{feed as feed_of, feeds as feeds_of};
 
 pub fn front(words: &[u32], count: usize) -> &[u32]
     ensures { result.now ≡ take count words.now }
@@ -22,14 +22,14 @@ pub fn front_bytes(bytes: &[u8], count: usize) -> &[u8]
 
 // 1 for the end of a line.
 fn feed(b: u8) -> usize
-    ensures { result ≡ feedOf b }
+    ensures { result ≡ feed_of b }
 {
     if b == b'\n' { 1 } else { 0 }
 }
 
 // How many lines end in these bytes.
 pub fn feeds(bytes: &[u8]) -> usize
-    ensures { result ≡ feedsOf bytes.now }
+    ensures { result ≡ feeds_of bytes.now }
 {
     let mut count: usize = 0;
     let mut i: usize = 0;
@@ -42,7 +42,7 @@ pub fn feeds(bytes: &[u8]) -> usize
 
 // The line of byte 262,144, in a text that has so many.
 pub fn overlong(text: &[u8]) -> usize
-    ensures { result ≡ feedsOf (take 262143 text.now) + 1 }
+    ensures { result ≡ feeds_of (take 262143 text.now) + 1 }
 {
     feeds(front_bytes(text, 262143)) + 1
 }

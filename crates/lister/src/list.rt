@@ -10,6 +10,9 @@ use listing::print::{input, listing, refusal};
 use listing::read::{Reading, Sizes, read};
 use tables::refusal::{number, place};
 
+// A text of so many bytes fills genlist's buffer.
+const TOO_LONG: usize = 262144;
+
 fn answered(
     out: &mut [u8],
     symbols: &[u32],
@@ -127,7 +130,7 @@ pub fn list(text: &[u8], out: &mut [u8]) -> usize
     match reading {
         Reading::Input(line) => input(out, line),
         Reading::Tables(sizes) => {
-            if 262144 <= text.len() {
+            if TOO_LONG <= text.len() {
                 return input(out, overlong(text));
             }
             printed(

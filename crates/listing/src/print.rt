@@ -3,7 +3,7 @@ ghost use Rattle.std.specs.Prelude.{◌≡◌, ◌+◌, ◌*◌, ◌/◌, ◌≤
 ghost use Rattle.tables.specs.Record.{size as size_of};
 ghost use Rattle.listing.specs.Print.{Wrote, beginning, takes_of, has_operand, operand_text, code_row, code_rows, const_name, const_value, const_row, const_rows};
 ghost use Rattle.listing.specs.Print.{plain_row, plain_rows, capture_name, upvalue_row, upvalue_rows, is_function, record_of, function_kind, optional, last_param, idents};
-ghost use Rattle.listing.specs.Print.{params as paramsText, head_row, loops_row, names_text, function_text, functions_text};
+ghost use Rattle.listing.specs.Print.{params as params_text, head_row, loops_row, names_text, function_text, functions_text};
 ghost use Rattle.listing.specs.Print.{error_name, error_row, error_rows, listing_text, refusal_text, input_text};
 
 use crate::text::{hex16, name, number, put, signed, text};
@@ -314,7 +314,7 @@ fn put_idents(out: &mut [u8], at: usize, recs: &[u32], detail: u32, from: usize)
 
 // The parameters of the Params record: none has `-`.
 fn params(out: &mut [u8], at: usize, recs: &[u32], list: usize) -> usize
-    ensures { Wrote (paramsText recs.now list) out.old at out.new result }
+    ensures { Wrote (params_text recs.now list) out.old at out.new result }
 {
     let i = first(recs, list);
     if i == 0 {

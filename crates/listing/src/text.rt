@@ -1,7 +1,7 @@
 // Bytes, words and numbers into a lent buffer from a place on. Where the buffer is full nothing is written and the place stays.
 ghost use Rattle.std.specs.Prelude.{[], ◌∷◌, ◌≡◌, ◌*◌, ◌<◌};
-ghost use Rattle.opcode.specs.Names.{name as nameText};
-ghost use Rattle.listing.specs.Print.{Wrote, decimal, Powers, Wide, Leads, hex_digit, hex_digits, joined as joinedOf, float, int};
+ghost use Rattle.opcode.specs.Names.{name as name_text};
+ghost use Rattle.listing.specs.Print.{Wrote, decimal, Powers, Wide, Leads, hex_digit, hex_digits, joined as joined_of, float, int};
 
 use opcode::tables::{NameLen, name_byte, name_len};
 
@@ -30,7 +30,7 @@ pub fn text(out: &mut [u8], at: usize, bytes: &[u8]) -> usize
 
 // The name of a code; nothing past the last one.
 pub fn name(out: &mut [u8], at: usize, code: u32) -> usize
-    ensures { Wrote (nameText code) out.old at out.new result }
+    ensures { Wrote (name_text code) out.old at out.new result }
 {
     let NameLen::Found(n) = name_len(code) else {
         return at;
@@ -128,11 +128,14 @@ fn long(out: &mut [u8], at: usize, n: u64) -> usize
     to
 }
 
+// Numbers below it have one digit.
+const TEN: u64 = 10;
+
 // Most numbers of a listing have one digit, and need no list.
 pub fn number(out: &mut [u8], at: usize, n: u64) -> usize
     ensures { Wrote (decimal n) out.old at out.new result }
 {
-    if n < 10 {
+    if n < TEN {
         return put(out, at, 48 + n as u8);
     }
     long(out, at, n)
@@ -157,7 +160,7 @@ fn hex(out: &mut [u8], at: usize, n: u64, count: u32) -> usize
 }
 
 fn joined(high: u32, low: u32) -> u64
-    ensures { result ≡ joinedOf high low }
+    ensures { result ≡ joined_of high low }
 {
     high as u64 * 4294967296 + low as u64
 }

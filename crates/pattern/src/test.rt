@@ -20,6 +20,8 @@ use tables::detail;
 
 // ValueType::Table
 const TABLE: u32 = 6;
+// A pattern with others has no test of its length.
+const WITH_OTHERS: u32 = detail::OTHERS;
 
 // PatternKind::Lit
 pub fn lit(
@@ -69,7 +71,7 @@ pub fn push_table_test(
     push_copy(code, frame, 1);
     push_type_check(code, frame, TABLE);
     push_pop_jump_if_false(code, frame, clean_stack_label);
-    if detail(recs, pattern) == detail::OTHERS {
+    if detail(recs, pattern) == WITH_OTHERS {
         return;
     }
     push_copy(code, frame, 1);

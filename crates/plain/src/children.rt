@@ -1,11 +1,11 @@
 // What the visitors know of a record's children before they visit them.
 ghost use Rattle.std.specs.Prelude.{◌≡◌, ◌-◌};
 ghost use Rattle.tables.specs.Forest.{forest, own_tree};
-ghost use Rattle.pool.specs.Value.{child as wordsAt, below};
+ghost use Rattle.pool.specs.Value.{child as words_at, below};
 ghost use Rattle.rules.specs.Step.{width as width_of};
-ghost use Rattle.rules.specs.Arms.{arguments as argumentsOf, is_tail};
+ghost use Rattle.rules.specs.Arms.{arguments as arguments_of, is_tail};
 ghost use Rattle.emit.specs.Words.{cap};
-ghost use Rattle.emit.specs.Does.{child as childOf};
+ghost use Rattle.emit.specs.Does.{child as child_of};
 ghost use Rattle.plain.specs.Runs.{argument_count};
 
 use crate::member::is_method;
@@ -23,7 +23,7 @@ pub fn less(n: usize) -> usize
 
 // arguments.len(), a trailing lambda with them: the siblings from the record c on that stand before the first Handler.
 pub fn arguments_len(recs: &[u32], c: usize) -> usize
-    ensures { result ≡ argumentsOf (own_tree (forest recs.now c)) }
+    ensures { result ≡ arguments_of (own_tree (forest recs.now c)) }
 {
     let mut n: usize = 0;
     let mut at = c;
@@ -69,7 +69,7 @@ pub fn is_tail(recs: &[u32], argument: usize) -> bool
 
 // The first child of the record c; an absent record has none, and a Function's are no part of the tree around it.
 pub fn first_child(recs: &[u32], c: usize) -> usize
-    ensures { result ≡ childOf recs.now c 0 }
+    ensures { result ≡ child_of recs.now c 0 }
 {
     if c == 0 {
         return 0;
@@ -82,7 +82,7 @@ pub fn first_child(recs: &[u32], c: usize) -> usize
 
 // The name string of an Ident, 0 where it is absent.
 pub fn name_of(recs: &[u32], ident: usize) -> u32
-    ensures { result ≡ (wordsAt (own_tree (forest recs.now ident)) 0).q }
+    ensures { result ≡ (words_at (own_tree (forest recs.now ident)) 0).q }
 {
     if ident == 0 { 0 } else { q(recs, ident) }
 }

@@ -4,7 +4,7 @@ ghost use Rattle.tables.specs.Record.{word};
 ghost use Rattle.rules.specs.Arms.{effect_steps, break_steps, continue_steps, params_steps};
 ghost use Rattle.emit.specs.Rep.{lent, outs, Moves};
 ghost use Rattle.emit.specs.Does.{Arm};
-ghost use Rattle.plain.specs.Runs.{register as registerOf, return_run};
+ghost use Rattle.plain.specs.Runs.{register as register_of, return_run};
 ghost use Rattle.plain.specs.Leaves.{Registers};
 
 use crate::children::first_child;
@@ -106,7 +106,7 @@ pub fn params(recs: &[u32], notes: &Notes, code: &mut [u32], frame: &mut Frame, 
 // A Call's Handler is registered with a label of its own.
 fn register(recs: &[u32], notes: &Notes, code: &mut [u32], frame: &mut Frame, handler: usize)
     ensures { (consts : List ℕ) (r : ℕ) → Moves recs.now (outs code.old consts) frame.old
-        (outs code.new consts) frame.new (λ c. registerOf (lent recs.now notes.now) r handler) }
+        (outs code.new consts) frame.new (λ c. register_of (lent recs.now notes.now) r handler) }
 {
     let handler_label = get_label(frame);
     let effect = first_child(recs, handler);

@@ -1,7 +1,7 @@
 // The constants of one function: a searched table in lent words, three to an entry. The Rust's add_const and its table of ConstValues.
 ghost use Rattle.std.specs.Prelude.{◌≡◌, ◌+◌, ◌<◌, min};
 ghost use Rattle.pool.specs.Value.{same, find};
-ghost use Rattle.pool.specs.Consts.{words, at, const_of, entry, table, room, put3 as put3Of, most, added, written};
+ghost use Rattle.pool.specs.Consts.{words, at, const_of, entry, table, room, put3 as put3_of, most, added, written};
 
 use crate::effect::same_effect;
 
@@ -99,7 +99,7 @@ pub fn find_const(
 // The three words of entry n; answers whether there was room for them.
 pub fn put3(consts: &mut [u32], n: usize, kind: u32, low: u32, high: u32) -> bool
     ensures room { result ≡ room consts.old n }
-    ensures words { consts.new ≡ put3Of consts.old n kind low high }
+    ensures words { consts.new ≡ put3_of consts.old n kind low high }
 {
     if n < consts.len() {
         let i = n * 3 + 2;
@@ -123,7 +123,7 @@ fn more(n: usize) -> usize
 // Constants start with Null.
 pub fn start_consts(consts: &mut [u32]) -> usize
     ensures count { result ≡ 1 }
-    ensures words { consts.new ≡ put3Of consts.old 0 0 0 0 }
+    ensures words { consts.new ≡ put3_of consts.old 0 0 0 0 }
 {
     put3(consts, 0, 0, 0, 0);
     1

@@ -1,7 +1,7 @@
 // What the making of the names and notes works with, in the words of a lent array: the function whose names are stamped, for each symbol the slot that was
 // stamped last, and as chains the Idents of each function and the functions inside each. No other file knows its places.
 ghost use Rattle.std.specs.Prelude.{◌≡◌, get_or, set, ◌+◌, ◌%◌, ◌<◌, ◌≤◌};
-ghost use Rattle.pool.specs.Scope.{owner_of, key as key_of, placed, index_in, stamped, below as belowOf, idents, inners, chained, first_of, next_of};
+ghost use Rattle.pool.specs.Scope.{owner_of, key as key_of, placed, index_in, stamped, below as below_of, idents, inners, chained, first_of, next_of};
 
 use crate::word::wide;
 
@@ -88,7 +88,7 @@ pub fn stamp(scope: &mut Scope, table: u32, symbol: u32, index: u32)
 
 // Chains go down: what was chained last comes first, and 0 ends them.
 fn below(link: u32, from: usize) -> usize
-    ensures { result ≡ belowOf link from }
+    ensures { result ≡ below_of link from }
 {
     let to = wide(link);
     if to < from { to } else { 0 }

@@ -4,6 +4,9 @@ ghost use Rattle.replay.specs.Case.{start as start_of, table as table_of, are_by
 
 use tables::semantic::entry;
 
+// The greatest byte.
+const BYTE: u32 = 255;
+
 // The first words, all of them where there are no more.
 pub fn front(words: &[u32], count: usize) -> &[u32]
     ensures { result.now ≡ take count words.now }
@@ -80,7 +83,7 @@ pub fn narrow(words: &[u32], bytes: &mut [u8]) -> bool
             return false;
         }
         let value = words[k];
-        if 255 < value {
+        if BYTE < value {
             return false;
         }
         bytes[k] = value as u8;

@@ -2,9 +2,9 @@
 ghost use Rattle.std.specs.Prelude.{◌≡◌, false, List, [], ◌∷◌};
 ghost use Rattle.tables.specs.Record.{size as size_of, words, word};
 ghost use Rattle.tables.specs.Place.{broken};
-ghost use Rattle.tables.specs.Children.{belongs as belongsTo, heads as headsOf, from, fits, Want, Serves, property as propertyOf, member as member_of};
-ghost use Rattle.tables.specs.Children.{left_property, imported as importedOf, Bracketed, expected, expected_control, expected_store, expected_part};
-ghost use Rattle.tables.specs.Children.{rooted as rootedOf, right_children, wrong_children};
+ghost use Rattle.tables.specs.Children.{belongs as belongs_to, heads as heads_of, from, fits, Want, Serves, property as property_of, member as member_of};
+ghost use Rattle.tables.specs.Children.{left_property, imported as imported_of, Bracketed, expected, expected_control, expected_store, expected_part};
+ghost use Rattle.tables.specs.Children.{rooted as rooted_of, right_children, wrong_children};
 
 use crate::ast::{detail, first, kind, next, next_word, p, size};
 use crate::refusal::Broken;
@@ -26,7 +26,7 @@ pub enum Class {
 }
 
 fn belongs(class: Class, kind: u32) -> bool
-    ensures { result ≡ belongsTo class kind }
+    ensures { result ≡ belongs_to class kind }
 {
     match class {
         Class::Expr => {
@@ -55,7 +55,7 @@ fn belongs(class: Class, kind: u32) -> bool
 
 // There is a child c, and it is of the class.
 fn heads(recs: &[u32], c: usize, class: Class) -> bool
-    ensures { result ≡ headsOf class (from recs.now c) }
+    ensures { result ≡ heads_of class (from recs.now c) }
 {
     if c == 0 {
         return false;
@@ -160,7 +160,7 @@ fn both(recs: &[u32], c: usize, left: Class, right: Class) -> bool
 
 // The property of member m.
 fn property(recs: &[u32], c: usize, m: u32) -> bool
-    ensures { result ≡ fits (propertyOf m) (from recs.now c) }
+    ensures { result ≡ fits (property_of m) (from recs.now c) }
 {
     match m {
         0 => only(recs, c, Class::Expr),
@@ -191,7 +191,7 @@ fn left_property(recs: &[u32], c: usize, detail: u32) -> bool
 
 // What follows an Import's path.
 fn imported(recs: &[u32], c: usize, detail: u32) -> bool
-    ensures { result ≡ fits (importedOf detail) (from recs.now c) }
+    ensures { result ≡ fits (imported_of detail) (from recs.now c) }
 {
     match detail {
         1 => only(recs, c, Class::Ident),
@@ -281,7 +281,7 @@ fn kind_children(recs: &[u32], r: usize, c: usize) -> bool
 }
 
 fn rooted(recs: &[u32]) -> bool
-    ensures { result ≡ rootedOf recs.now }
+    ensures { result ≡ rooted_of recs.now }
 {
     if kind(recs, 0) == 30 {
         return next_word(recs, 0) == 0;

@@ -2,7 +2,7 @@
 ghost use Rattle.std.specs.Prelude.{◌≡◌};
 ghost use Rattle.tables.specs.Record.{size as size_of, words};
 ghost use Rattle.tables.specs.Place.{broken};
-ghost use Rattle.tables.specs.Details.{of_kind, known_kind, details as detailsOf, right_number, known_detail, right_lit, right_words, right_detail, wrong_detail};
+ghost use Rattle.tables.specs.Details.{of_kind, known_kind, details as details_of, right_number, known_detail, right_lit, right_words, right_detail, wrong_detail};
 
 use crate::ast::{detail, kind, p, q, size};
 use crate::refusal::Broken;
@@ -26,7 +26,7 @@ fn known_kind(kind: u32) -> bool
 
 // How many details a kind has, 0 if it names none.
 fn detail_count(kind: u32) -> u32
-    ensures { result ≡ of_kind kind detailsOf 0 }
+    ensures { result ≡ of_kind kind details_of 0 }
 {
     match kind {
         1 => 6,

@@ -1,13 +1,13 @@
 // Row 1: the lent tables by their lengths alone.
 ghost use Rattle.std.specs.Prelude.{◌≡◌, ◌<◌};
-ghost use Rattle.tables.specs.Lent.{unfit as unfitOf, lent_broken};
+ghost use Rattle.tables.specs.Lent.{unfit as unfit_of, lent_broken};
 
 use crate::refusal::Broken;
 
 // More entries than the limit, or words left over.
 fn unfit(words: usize, width: usize, limit: usize) -> bool
     requires { 0 < width }
-    ensures { result ≡ unfitOf width limit words }
+    ensures { result ≡ unfit_of width limit words }
 {
     if limit < words / width {
         return true;

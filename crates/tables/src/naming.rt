@@ -1,7 +1,7 @@
 // Row 7: every record but 0 is named by exactly one link.
 ghost use Rattle.std.specs.Prelude.{◌≡◌, ℕ, ◌+◌, ◌<◌, ◌≤◌, min, length, get_or, set};
 ghost use Rattle.tables.specs.Record.{size as size_of};
-ghost use Rattle.tables.specs.Naming.{named_by, naming as namingOf};
+ghost use Rattle.tables.specs.Naming.{named_by, naming as naming_of};
 
 use crate::refusal::Broken;
 use crate::{ast, scratch};
@@ -38,7 +38,7 @@ fn counted(recs: &[u32], n: usize) -> [u8; 4096]
 }
 
 pub fn naming(recs: &[u32]) -> Broken
-    ensures { size_of recs.now ≤ 4096 → result ≡ namingOf recs.now }
+    ensures { size_of recs.now ≤ 4096 → result ≡ naming_of recs.now }
 {
     let n = ast::size(recs);
     if 4096 < n {

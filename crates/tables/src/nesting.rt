@@ -2,11 +2,14 @@
 ghost use Rattle.std.specs.Prelude.{◌≡◌, ℕ, ◌+◌, ◌<◌, ◌≤◌, min};
 ghost use Rattle.tables.specs.Record.{size as size_of};
 ghost use Rattle.tables.specs.Naming.{Joined};
-ghost use Rattle.tables.specs.Nesting.{nesting as nestingOf};
+ghost use Rattle.tables.specs.Nesting.{nesting as nesting_of};
 ghost use Rattle.tables.specs.Scratch.{Handed};
 
 use crate::refusal::Broken;
 use crate::{ast, scratch};
+
+// The deepest level that is accepted.
+const LEVELS: u16 = 128;
 
 // One level deeper, 129 standing for any deeper one.
 fn deeper(level: u16) -> u16
@@ -33,7 +36,7 @@ fn levels(recs: &[u32], n: usize) -> [u16; 4096]
 }
 
 pub fn nesting(recs: &[u32]) -> Broken
-    ensures { size_of recs.now ≤ 4096 → Joined recs.now → result ≡ nestingOf recs.now }
+    ensures { size_of recs.now ≤ 4096 → Joined recs.now → result ≡ nesting_of recs.now }
 {
     let n = ast::size(recs);
     if 4096 < n {
@@ -42,7 +45,7 @@ pub fn nesting(recs: &[u32]) -> Broken
     let a = levels(recs, n);
     let mut x: usize = 0;
     while x < n {
-        if 128 < a[x] {
+        if LEVELS < a[x] {
             return Broken::At(x);
         }
         x += 1;

@@ -3,8 +3,8 @@ ghost use Rattle.std.specs.Prelude.{◌≡◌, cond, ℕ, ◌+◌, ◌-◌, ◌<
 ghost use Rattle.tables.specs.Record.{word as word_of, words, size as size_of};
 ghost use Rattle.tables.specs.Naming.{Joined};
 ghost use Rattle.tables.specs.Scratch.{Handed};
-ghost use Rattle.tables.specs.Numbering.{manner as mannerOf, is_left, numbering as numberingOf};
-ghost use Rattle.tables.specs.Counting.{plus as plusOf, own as own_of, shift as shift_of, offset as offset_of, tally, tally_left, Tallied};
+ghost use Rattle.tables.specs.Numbering.{manner as manner_by, is_left, numbering as numbering_of};
+ghost use Rattle.tables.specs.Counting.{plus as plus_of, own as own_of, shift as shift_of, offset as offset_of, tally, tally_left, Tallied};
 ghost use Rattle.tables.specs.Counting.{start_of, base_down, caller_down, caller_word, wrong, found};
 ghost use Rattle.tables.specs.Place.{broken};
 
@@ -21,7 +21,7 @@ pub enum Manner {
 }
 
 fn manner_of(kind: u32) -> Manner
-    ensures { result ≡ mannerOf kind }
+    ensures { result ≡ manner_by kind }
 {
     match kind {
         27 => Manner::RightThenBack,
@@ -33,7 +33,7 @@ fn manner_of(kind: u32) -> Manner
 
 // A sum that stops at 4,096.
 fn plus(a: u16, b: u16) -> u16
-    ensures { result ≡ plusOf a b }
+    ensures { result ≡ plus_of a b }
 {
     if a < 4096 {
         if b < 4096 - a {
@@ -328,7 +328,7 @@ fn searched(
 }
 
 pub fn numbering(recs: &[u32], funs: &[u32]) -> Broken
-    ensures { size_of recs.now ≤ 4096 → Joined recs.now → result ≡ numberingOf recs.now funs.now }
+    ensures { size_of recs.now ≤ 4096 → Joined recs.now → result ≡ numbering_of recs.now funs.now }
 {
     let n = ast::size(recs);
     if 4096 < n {

@@ -1,7 +1,7 @@
 // Row 3, table 1: each string lies inside the bytes and equals no earlier one.
 ghost use Rattle.std.specs.Prelude.{◌≡◌, ℕ, ◌+◌, ◌<◌};
 ghost use Rattle.tables.specs.Entries.{same_list, same_string, equal_earlier, string_bad, strings_broken};
-ghost use Rattle.tables.specs.Seen.{mixed as mixedOf, hash as hashOf, hash_at, bucket as bucketOf, Chained};
+ghost use Rattle.tables.specs.Seen.{mixed as mixed_of, hash as hash_of, hash_at, bucket as bucket_of, Chained};
 
 use crate::refusal::Broken;
 use crate::scratch::wide;
@@ -46,13 +46,13 @@ fn equal_earlier(strings: &[u32], bytes: &[u8], s: usize) -> bool
 
 // A hash with one byte more.
 fn mixed(h: u32, x: u8) -> u32
-    ensures { result ≡ mixedOf h x }
+    ensures { result ≡ mixed_of h x }
 {
     ((h as u64 * 16777619 + x as u64) % 4294967296) as u32
 }
 
 fn hash(a: &[u8]) -> u32
-    ensures { result ≡ hashOf 0 a.now }
+    ensures { result ≡ hash_of 0 a.now }
 {
     let mut h: u32 = 0;
     let mut i: usize = 0;
@@ -72,7 +72,7 @@ fn string_hash(strings: &[u32], bytes: &[u8], s: usize) -> u32
 
 // A prime number of buckets, so that every bit of the hash counts.
 fn bucket(h: u32) -> usize
-    ensures { result ≡ bucketOf h }
+    ensures { result ≡ bucket_of h }
 {
     (h % 1021) as usize
 }

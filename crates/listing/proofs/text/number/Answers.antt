@@ -3,5 +3,5 @@ use Rattle.listing.proofs.PrintLaws.{same}
 use Rattle.listing.proofs.DecimalLaws.{decimal_one}
 use Rattle.listing.proofs.text.number.Goals as goal
 
-pub returns-then-n-lt10 : goal.returns-then-n-lt10
-returns-then-n-lt10 c = same (decimal_one _ (omega arith)) c.put.ensures
+pub returns-then-n-lt-TEN : goal.returns-then-n-lt-TEN
+returns-then-n-lt-TEN c = same (decimal_one _ (omega arith)) c.put.ensures

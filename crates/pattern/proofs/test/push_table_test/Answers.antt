@@ -7,15 +7,15 @@ use borrow.Author.Tests.{eq-eqb, ne_eqb}
 use mathlib.Core.Path.{◌∙◌, refl, sym}
 use Rattle.pattern.proofs.test.push_table_test.Goals as goal
 
-pub returns-then-detail-eq-OTHERS : goal.returns-then-detail-eq-OTHERS
-returns-then-detail-eq-OTHERS c =
+pub returns-then-detail-eq-WITH_OTHERS : goal.returns-then-detail-eq-WITH_OTHERS
+returns-then-detail-eq-WITH_OTHERS c =
     λ q. record {
       moves = λ r y e. record {
         moves = λ v o₀ A h.
             let h1 = said r Copy 1 refl refl c.push_copy.ensures h in
             let h2 = said r TypeCheck 6 refl refl c.push_type_check.ensures h1 in
             let h3 = jumped r PopJumpIfFalse y refl e c.push_pop_jump_if_false.ensures h2 in
-            given (on_true _ _ _ (eq-eqb _ _ (sym c.detail.ensures ∙ c.if-detail-eq-OTHERS.true))) h3;
+            given (on_true _ _ _ (eq-eqb _ _ (sym c.detail.ensures ∙ c.if-detail-eq-WITH_OTHERS.true))) h3;
       };
     }
 
@@ -32,6 +32,6 @@ returns c =
             let h6 = int_loaded q c.args.n refl c.push_load_const.ensures h5 in
             let h7 = said r Eq 0 refl refl c.push_eq.ensures h6 in
             let h8 = jumped r PopJumpIfFalse y refl e c.push_pop_jump_if_false-2.ensures h7 in
-            given (on_false _ _ _ (ne_eqb _ _ (λ z. c.if-detail-eq-OTHERS.false (c.detail.ensures ∙ z)))) h8;
+            given (on_false _ _ _ (ne_eqb _ _ (λ z. c.if-detail-eq-WITH_OTHERS.false (c.detail.ensures ∙ z)))) h8;
       };
     }

@@ -9,7 +9,7 @@ loop-k-preserved c =
     let a = c.args in
     let l = c.loop-k in (
       laid_more a.words.now l.bytes a.bytes.now l.k (omega arith) (omega arith) l.invariant.0,
-      byte_more a.words.now l.k (omega arith) c.if-value-gt255.false l.invariant.1,
+      byte_more a.words.now l.k (omega arith) c.if-value-gt-BYTE.false l.invariant.1,
       omega arith,
       omega arith,
       length-set l.bytes l.k _ ∙ l.invariant.4,

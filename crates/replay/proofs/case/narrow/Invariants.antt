@@ -9,7 +9,7 @@ use Rattle.replay.proofs.case.narrow.Given as goal
 abbrev pub invariant-loop-k : goal.invariant-loop-k
 invariant-loop-k l =
     (l.bytes ≡ paste l.initial.bytes 0 l.words l.k) × (all_bytes l.words ≡ all_bytes (drop l.k l.words)) × (l.k ≤ length l.words) × (l.k ≤ length l.initial.bytes) ×
-        (length l.bytes ≡ length l.initial.bytes)
+    (length l.bytes ≡ length l.initial.bytes)
 
 abbrev pub decreases-loop-k : goal.decreases-loop-k
 decreases-loop-k l = length l.words - l.k

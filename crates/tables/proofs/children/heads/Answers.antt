@@ -1,5 +1,5 @@
 use mathlib.Core.Path.{ap, ◌∙◌}
-use Rattle.tables.specs.Children.{belongs as belongsTo}
+use Rattle.tables.specs.Children.{belongs as belongs_to}
 use Rattle.tables.proofs.ServeLaws.{heads_none, heads_some}
 use Rattle.tables.proofs.children.heads.Goals as goal
 
@@ -10,5 +10,5 @@ returns-then-c-eq0 c = heads_none _ _ _ c.if-c-eq0.true
 pub returns : goal.returns
 returns c =
     let arg = c.args in
-    c.belongs.ensures ∙ ap (belongsTo arg.class) c.kind.ensures
+    c.belongs.ensures ∙ ap (belongs_to arg.class) c.kind.ensures
     ∙ heads_some arg.recs.now arg.c arg.class c.if-c-eq0.false

@@ -9,8 +9,8 @@ use Rattle.tables.proofs.PlaceLaws.{rest_on, rest_at, rest_end}
 use Rattle.tables.proofs.NestingLaws.{level_handed, nested_deep, nested_well}
 use Rattle.tables.proofs.nesting.nesting.Goals as goal
 
-pub returns-then-a-x-gt128 : goal.returns-then-a-x-gt128
-returns-then-a-x-gt128 c =
+pub returns-then-a-x-gt-LEVELS : goal.returns-then-a-x-gt-LEVELS
+returns-then-a-x-gt-LEVELS c =
     let l = c.loop-x in
     λ h j.
     sym (rest_at _ _ l.x (omega (arith, c.size-n.ensures)) (nested_deep _ _ ((let it : Joined c.args.recs.now
@@ -19,7 +19,7 @@ returns-then-a-x-gt128 c =
     let recs = c.args.recs.now in
     level_handed recs _ j (subst (λ z. Handed (λ r v. min 129 (v + 1)) recs 1 z c.levels-a.result) e (c.levels-a.ensures e j))
     c.loop-x.x
-    (omega arith) in it) j) c.if-a-x-gt128.true))
+    (omega arith) in it) j) c.if-a-x-gt-LEVELS.true))
     ∙ l.invariant j
 
 pub loop-x-preserved : goal.loop-x-preserved
@@ -32,7 +32,7 @@ loop-x-preserved c =
     let recs = c.args.recs.now in
     level_handed recs _ j (subst (λ z. Handed (λ r v. min 129 (v + 1)) recs 1 z c.levels-a.result) e (c.levels-a.ensures e j))
     c.loop-x.x
-    (omega arith) in it) j) c.if-a-x-gt128.false))
+    (omega arith) in it) j) c.if-a-x-gt-LEVELS.false))
     ∙ l.invariant j
 
 pub returns : goal.returns
