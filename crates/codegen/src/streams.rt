@@ -102,7 +102,7 @@ pub(crate) fn streams(
     requires ready { Ready notes.now recs.now }
     requires sized { Sized frame.old }
     requires spaced { Spaced (noted_run notes.now recs.now) markers.old constants.old lines.old }
-    requires met_value { met ≡ met_of (noted_run notes.now recs.now) }
+    requires all_met { met ≡ met_of (noted_run notes.now recs.now) }
     ensures frame { Sized frame.new }
     ensures words { Streams (noted_run notes.now recs.now) recs.now spans.now
         markers.old markers.new constants.old constants.new lines.old lines.new }

@@ -48,8 +48,8 @@ pub(crate) fn error_words(
 )
     requires walkable { Walkable notes.now recs.now }
     requires sized { Sized frame.old }
-    requires count_value { count ≡ length (side (noted_run notes.now recs.now)).errors }
-    requires count_lt_limit { count < limit }
+    requires counted { count ≡ length (side (noted_run notes.now recs.now)).errors }
+    requires few { count < limit }
     ensures { errors.new ≡ note errors.old (side (noted_run notes.now recs.now)).errors }
 {
     if 0 < count {

@@ -1,7 +1,7 @@
 -- How the lent words stand for the state of `rules`, and the form of a visitor's contract. Definitions only.
 use Rattle.std.specs.Prelude.{◌≡◌, Bool, true, false, List, [], ◌∷◌, ℕ, suc, ◌+◌, ◌*◌, ◌≤◌, ◌<◌, length, take, ltb}
 use Rattle.opcode.specs.declared.opcode.Words.{Words as MarkerWords}
-use Rattle.tables.specs.Record.{size as type_size}
+use Rattle.tables.specs.Record.{size as size_of}
 use Rattle.tables.specs.Forest.{next}
 use Rattle.rules.specs.declared.StackCode.{StackCode}
 use Rattle.pool.specs.Consts.{laid, put3, AllTold}
@@ -114,7 +114,7 @@ lent a b = record { records = a; notes = b }
 
 -- a word can number the records, and each sibling's note names the one before it
 pub record Scoped (e : Lent) : Type 0 where
-  pub small : type_size e.records < limit
+  pub small : size_of e.records < limit
   pub backs : (c : ℕ) → (next e.records c ≡ 0 → ⊥) → earlier_noted e.notes (next e.records c) ≡ c
 
 -- from the words o and w to o' and w' the state goes by f, whatever the notes

@@ -162,7 +162,8 @@ fn start(
     base: &[u16; 4096],
     x: usize,
 ) -> u16
-    requires { (size_of recs.now ≤ 4096) × (x < 4096) }
+    requires small { size_of recs.now ≤ 4096 }
+    requires inside { x < 4096 }
     ensures { result ≡ start_of recs.now all.now left.now up.now base.now x }
 {
     plus(base[x], offset(recs, all, left, up, x))

@@ -15,7 +15,7 @@ pub turn-at-requires : goal.turn-at-requires
 turn-at-requires c =
     let l = c.loop-n in
     let lt = c.loop-n-test.true in
-    let e = c.requires.met_value in record {
+    let e = c.requires.all_met in record {
       ready = c.requires.ready;
       sized = l.invariant.1;
       places = c.places.ensures;
@@ -28,7 +28,7 @@ turn-at-requires c =
 pub loop-n-preserved : goal.loop-n-preserved
 loop-n-preserved c =
     let lt = c.loop-n-test.true in
-    let e = c.requires.met_value in (
+    let e = c.requires.all_met in (
       going_next (noted_run c.args.notes.now c.args.recs.now) c.args.recs.now c.args.spans.now _ _ _ _ _ _ _ _ _ _ _ c.turn-at.result
           (omega arith) c.loop-n.invariant.0
           c.turn-at.ensures.words,
