@@ -1,8 +1,8 @@
 use mathlib.Core.Path.{◌≡◌, sym, ap, ◌∙◌}
-use Prim.Native.Nat.{ℕ}
 use Rattle.tables.specs.declared.refusal.Broken.{Broken}
 use Rattle.tables.specs.declared.refusal.Broken.TheVariants.{Nowhere, At}
-use Rattle.tables.specs.Entries.{or_else, strings_broken, symbols_broken, references_broken, parents_broken, counts_broken, members_broken, entries_broken}
+use Prim.Native.Nat.{ℕ}
+use Rattle.tables.specs.Entries.{or_else, entries_broken}
 use Rattle.tables.proofs.entries.entries.Goals as goal
 
 -- a table is well: the next ones decide
@@ -15,101 +15,45 @@ halt x y r i e n = ap (λ (z : Broken). or_else z r) (sym n ∙ e)
 
 pub returns-in-At : goal.returns-in-At
 unfolding entries_broken
-returns-in-At c = halt _ _ _ _ c.strings_broken.ensures c.in-At.is
+returns-in-At c =
+    halt _ _ _ _ c.strings_broken.ensures c.in-At.is
 
 pub returns-in-At-symbols_broken : goal.returns-in-At-symbols_broken
 unfolding entries_broken
-returns-in-At-symbols_broken c = halt _ _ _ _ c.symbols_broken.ensures c.in-At-symbols_broken.is ∙ (let it : (let a = c.args in or_else (symbols_broken a.strings.now
-    a.symbols.now) ((let a = c.args in or_else (references_broken a.symbols.now a.references.now) ((let a = c.args in or_else (parents_broken a.functions.now) ((let a
-    = c.args in or_else (counts_broken a.functions.now a.members.now) ((let a = c.args in members_broken a.symbols.now a.functions.now a.members.now))))))))) ≡ (let a
-    = c.args in or_else (strings_broken a.strings.now a.bytes.now) ((let a = c.args in or_else (symbols_broken a.strings.now a.symbols.now) ((let a = c.args in or_else
-    (references_broken a.symbols.now a.references.now) ((let a = c.args in or_else (parents_broken a.functions.now) ((let a = c.args in or_else (counts_broken
-    a.functions.now a.members.now) ((let a = ((c)).args in members_broken a.symbols.now a.functions.now a.members.now))))))))))) = skip _ _ _ c.strings_broken.ensures
-    c.in_default.is in it)
+returns-in-At-symbols_broken c =
+    halt _ _ _ _ c.symbols_broken.ensures c.in-At-symbols_broken.is
+    ∙ skip _ _ _ c.strings_broken.ensures c.in_default.is
 
 pub returns-in-At-references_broken : goal.returns-in-At-references_broken
 unfolding entries_broken
-returns-in-At-references_broken c = halt _ _ _ _ c.references_broken.ensures c.in-At-references_broken.is ∙ (let it : (let a = c.args in or_else (references_broken
-    a.symbols.now a.references.now) ((let a = c.args in or_else (parents_broken a.functions.now) ((let a = c.args in or_else (counts_broken a.functions.now
-    a.members.now) ((let a = c.args in members_broken a.symbols.now a.functions.now a.members.now))))))) ≡ (let a = c.args in or_else (strings_broken a.strings.now
-    a.bytes.now) ((let a = c.args in or_else (symbols_broken a.strings.now a.symbols.now) ((let a = c.args in or_else (references_broken a.symbols.now
-    a.references.now) ((let a = c.args in or_else (parents_broken a.functions.now) ((let a = c.args in or_else (counts_broken a.functions.now a.members.now) ((let a =
-    c.args in members_broken a.symbols.now a.functions.now a.members.now))))))))))) = skip _ _ _ c.symbols_broken.ensures c.in_default-symbols_broken.is ∙ (let it :
-    (let a = c.args in or_else (symbols_broken a.strings.now a.symbols.now) ((let a = c.args in or_else (references_broken a.symbols.now a.references.now) ((let a =
-    c.args in or_else (parents_broken a.functions.now) ((let a = c.args in or_else (counts_broken a.functions.now a.members.now) ((let a = c.args in members_broken
-    a.symbols.now a.functions.now a.members.now))))))))) ≡ (let a = c.args in or_else (strings_broken a.strings.now a.bytes.now) ((let a = c.args in or_else
-    (symbols_broken a.strings.now a.symbols.now) ((let a = c.args in or_else (references_broken a.symbols.now a.references.now) ((let a = c.args in or_else
-    (parents_broken a.functions.now) ((let a = c.args in or_else (counts_broken a.functions.now a.members.now) ((let a = ((c)).args in members_broken a.symbols.now
-    a.functions.now a.members.now))))))))))) = skip _ _ _ c.strings_broken.ensures c.in_default.is in it) in it)
+returns-in-At-references_broken c =
+    halt _ _ _ _ c.references_broken.ensures c.in-At-references_broken.is
+    ∙ skip _ _ _ c.symbols_broken.ensures c.in_default-symbols_broken.is
+    ∙ skip _ _ _ c.strings_broken.ensures c.in_default.is
 
 pub returns-in-At-parents_broken : goal.returns-in-At-parents_broken
 unfolding entries_broken
-returns-in-At-parents_broken c = halt _ _ _ _ c.parents_broken.ensures c.in-At-parents_broken.is ∙ (let it : (let a = c.args in or_else (parents_broken
-    a.functions.now) ((let a = c.args in or_else (counts_broken a.functions.now a.members.now) ((let a = c.args in members_broken a.symbols.now a.functions.now
-    a.members.now))))) ≡ (let a = c.args in or_else (strings_broken a.strings.now a.bytes.now) ((let a = c.args in or_else (symbols_broken a.strings.now a.symbols.now)
-    ((let a = c.args in or_else (references_broken a.symbols.now a.references.now) ((let a = c.args in or_else (parents_broken a.functions.now) ((let a = c.args in
-    or_else (counts_broken a.functions.now a.members.now) ((let a = c.args in members_broken a.symbols.now a.functions.now a.members.now))))))))))) = skip _ _ _
-    c.references_broken.ensures c.in_default-references_broken.is ∙ (let it : (let a = c.args in or_else (references_broken a.symbols.now a.references.now) ((let a =
-    c.args in or_else (parents_broken a.functions.now) ((let a = c.args in or_else (counts_broken a.functions.now a.members.now) ((let a = c.args in members_broken
-    a.symbols.now a.functions.now a.members.now))))))) ≡ (let a = c.args in or_else (strings_broken a.strings.now a.bytes.now) ((let a = c.args in or_else
-    (symbols_broken a.strings.now a.symbols.now) ((let a = c.args in or_else (references_broken a.symbols.now a.references.now) ((let a = c.args in or_else
-    (parents_broken a.functions.now) ((let a = c.args in or_else (counts_broken a.functions.now a.members.now) ((let a = c.args in members_broken a.symbols.now
-    a.functions.now a.members.now))))))))))) = skip _ _ _ c.symbols_broken.ensures c.in_default-symbols_broken.is ∙ (let it : (let a = c.args in or_else
-    (symbols_broken a.strings.now a.symbols.now) ((let a = c.args in or_else (references_broken a.symbols.now a.references.now) ((let a = c.args in or_else
-    (parents_broken a.functions.now) ((let a = c.args in or_else (counts_broken a.functions.now a.members.now) ((let a = c.args in members_broken a.symbols.now
-    a.functions.now a.members.now))))))))) ≡ (let a = c.args in or_else (strings_broken a.strings.now a.bytes.now) ((let a = c.args in or_else (symbols_broken
-    a.strings.now a.symbols.now) ((let a = c.args in or_else (references_broken a.symbols.now a.references.now) ((let a = c.args in or_else (parents_broken
-    a.functions.now) ((let a = c.args in or_else (counts_broken a.functions.now a.members.now) ((let a = ((c)).args in members_broken a.symbols.now a.functions.now
-    a.members.now))))))))))) = skip _ _ _ c.strings_broken.ensures c.in_default.is in it) in it) in it)
+returns-in-At-parents_broken c =
+    halt _ _ _ _ c.parents_broken.ensures c.in-At-parents_broken.is
+    ∙ skip _ _ _ c.references_broken.ensures c.in_default-references_broken.is
+    ∙ skip _ _ _ c.symbols_broken.ensures c.in_default-symbols_broken.is
+    ∙ skip _ _ _ c.strings_broken.ensures c.in_default.is
 
 pub returns-in-At-counts_broken : goal.returns-in-At-counts_broken
 unfolding entries_broken
-returns-in-At-counts_broken c = halt _ _ _ _ c.counts_broken.ensures c.in-At-counts_broken.is ∙ (let it : (let a = c.args in or_else (counts_broken a.functions.now
-    a.members.now) ((let a = c.args in members_broken a.symbols.now a.functions.now a.members.now))) ≡ (let a = c.args in or_else (strings_broken a.strings.now
-    a.bytes.now) ((let a = c.args in or_else (symbols_broken a.strings.now a.symbols.now) ((let a = c.args in or_else (references_broken a.symbols.now
-    a.references.now) ((let a = c.args in or_else (parents_broken a.functions.now) ((let a = c.args in or_else (counts_broken a.functions.now a.members.now) ((let a =
-    c.args in members_broken a.symbols.now a.functions.now a.members.now))))))))))) = skip _ _ _ c.parents_broken.ensures c.in_default-parents_broken.is ∙ (let it :
-    (let a = c.args in or_else (parents_broken a.functions.now) ((let a = c.args in or_else (counts_broken a.functions.now a.members.now) ((let a = c.args in
-    members_broken a.symbols.now a.functions.now a.members.now))))) ≡ (let a = c.args in or_else (strings_broken a.strings.now a.bytes.now) ((let a = c.args in or_else
-    (symbols_broken a.strings.now a.symbols.now) ((let a = c.args in or_else (references_broken a.symbols.now a.references.now) ((let a = c.args in or_else
-    (parents_broken a.functions.now) ((let a = c.args in or_else (counts_broken a.functions.now a.members.now) ((let a = c.args in members_broken a.symbols.now
-    a.functions.now a.members.now))))))))))) = skip _ _ _ c.references_broken.ensures c.in_default-references_broken.is ∙ (let it : (let a = c.args in or_else
-    (references_broken a.symbols.now a.references.now) ((let a = c.args in or_else (parents_broken a.functions.now) ((let a = c.args in or_else (counts_broken
-    a.functions.now a.members.now) ((let a = c.args in members_broken a.symbols.now a.functions.now a.members.now))))))) ≡ (let a = c.args in or_else (strings_broken
-    a.strings.now a.bytes.now) ((let a = c.args in or_else (symbols_broken a.strings.now a.symbols.now) ((let a = c.args in or_else (references_broken a.symbols.now
-    a.references.now) ((let a = c.args in or_else (parents_broken a.functions.now) ((let a = c.args in or_else (counts_broken a.functions.now a.members.now) ((let a =
-    c.args in members_broken a.symbols.now a.functions.now a.members.now))))))))))) = skip _ _ _ c.symbols_broken.ensures c.in_default-symbols_broken.is ∙ (let it :
-    (let a = c.args in or_else (symbols_broken a.strings.now a.symbols.now) ((let a = c.args in or_else (references_broken a.symbols.now a.references.now) ((let a =
-    c.args in or_else (parents_broken a.functions.now) ((let a = c.args in or_else (counts_broken a.functions.now a.members.now) ((let a = c.args in members_broken
-    a.symbols.now a.functions.now a.members.now))))))))) ≡ (let a = c.args in or_else (strings_broken a.strings.now a.bytes.now) ((let a = c.args in or_else
-    (symbols_broken a.strings.now a.symbols.now) ((let a = c.args in or_else (references_broken a.symbols.now a.references.now) ((let a = c.args in or_else
-    (parents_broken a.functions.now) ((let a = c.args in or_else (counts_broken a.functions.now a.members.now) ((let a = ((c)).args in members_broken a.symbols.now
-    a.functions.now a.members.now))))))))))) = skip _ _ _ c.strings_broken.ensures c.in_default.is in it) in it) in it) in it)
+returns-in-At-counts_broken c =
+    halt _ _ _ _ c.counts_broken.ensures c.in-At-counts_broken.is
+    ∙ skip _ _ _ c.parents_broken.ensures c.in_default-parents_broken.is
+    ∙ skip _ _ _ c.references_broken.ensures c.in_default-references_broken.is
+    ∙ skip _ _ _ c.symbols_broken.ensures c.in_default-symbols_broken.is
+    ∙ skip _ _ _ c.strings_broken.ensures c.in_default.is
 
 pub returns : goal.returns
 unfolding entries_broken
-returns c = c.members_broken.ensures ∙ (let it : (let a = c.args in members_broken a.symbols.now a.functions.now a.members.now) ≡ (let a = c.args in or_else
-    (strings_broken a.strings.now a.bytes.now) ((let a = c.args in or_else (symbols_broken a.strings.now a.symbols.now) ((let a = c.args in or_else (references_broken
-    a.symbols.now a.references.now) ((let a = c.args in or_else (parents_broken a.functions.now) ((let a = c.args in or_else (counts_broken a.functions.now
-    a.members.now) ((let a = c.args in members_broken a.symbols.now a.functions.now a.members.now))))))))))) = skip _ _ _ c.counts_broken.ensures
-    c.in_default-counts_broken.is ∙ (let it : (let a = c.args in or_else (counts_broken a.functions.now a.members.now) ((let a = c.args in members_broken a.symbols.now
-    a.functions.now a.members.now))) ≡ (let a = c.args in or_else (strings_broken a.strings.now a.bytes.now) ((let a = c.args in or_else (symbols_broken a.strings.now
-    a.symbols.now) ((let a = c.args in or_else (references_broken a.symbols.now a.references.now) ((let a = c.args in or_else (parents_broken a.functions.now) ((let a
-    = c.args in or_else (counts_broken a.functions.now a.members.now) ((let a = c.args in members_broken a.symbols.now a.functions.now a.members.now))))))))))) = skip
-    _ _ _ c.parents_broken.ensures c.in_default-parents_broken.is ∙ (let it : (let a = c.args in or_else (parents_broken a.functions.now) ((let a = c.args in or_else
-    (counts_broken a.functions.now a.members.now) ((let a = c.args in members_broken a.symbols.now a.functions.now a.members.now))))) ≡ (let a = c.args in or_else
-    (strings_broken a.strings.now a.bytes.now) ((let a = c.args in or_else (symbols_broken a.strings.now a.symbols.now) ((let a = c.args in or_else (references_broken
-    a.symbols.now a.references.now) ((let a = c.args in or_else (parents_broken a.functions.now) ((let a = c.args in or_else (counts_broken a.functions.now
-    a.members.now) ((let a = c.args in members_broken a.symbols.now a.functions.now a.members.now))))))))))) = skip _ _ _ c.references_broken.ensures
-    c.in_default-references_broken.is ∙ (let it : (let a = c.args in or_else (references_broken a.symbols.now a.references.now) ((let a = c.args in or_else
-    (parents_broken a.functions.now) ((let a = c.args in or_else (counts_broken a.functions.now a.members.now) ((let a = c.args in members_broken a.symbols.now
-    a.functions.now a.members.now))))))) ≡ (let a = c.args in or_else (strings_broken a.strings.now a.bytes.now) ((let a = c.args in or_else (symbols_broken
-    a.strings.now a.symbols.now) ((let a = c.args in or_else (references_broken a.symbols.now a.references.now) ((let a = c.args in or_else (parents_broken
-    a.functions.now) ((let a = c.args in or_else (counts_broken a.functions.now a.members.now) ((let a = c.args in members_broken a.symbols.now a.functions.now
-    a.members.now))))))))))) = skip _ _ _ c.symbols_broken.ensures c.in_default-symbols_broken.is ∙ (let it : (let a = c.args in or_else (symbols_broken a.strings.now
-    a.symbols.now) ((let a = c.args in or_else (references_broken a.symbols.now a.references.now) ((let a = c.args in or_else (parents_broken a.functions.now) ((let a
-    = c.args in or_else (counts_broken a.functions.now a.members.now) ((let a = c.args in members_broken a.symbols.now a.functions.now a.members.now))))))))) ≡ (let a
-    = c.args in or_else (strings_broken a.strings.now a.bytes.now) ((let a = c.args in or_else (symbols_broken a.strings.now a.symbols.now) ((let a = c.args in or_else
-    (references_broken a.symbols.now a.references.now) ((let a = c.args in or_else (parents_broken a.functions.now) ((let a = c.args in or_else (counts_broken
-    a.functions.now a.members.now) ((let a = ((c)).args in members_broken a.symbols.now a.functions.now a.members.now))))))))))) = skip _ _ _ c.strings_broken.ensures
-    c.in_default.is in it) in it) in it) in it) in it)
+returns c =
+    c.members_broken.ensures
+    ∙ skip _ _ _ c.counts_broken.ensures c.in_default-counts_broken.is
+    ∙ skip _ _ _ c.parents_broken.ensures c.in_default-parents_broken.is
+    ∙ skip _ _ _ c.references_broken.ensures c.in_default-references_broken.is
+    ∙ skip _ _ _ c.symbols_broken.ensures c.in_default-symbols_broken.is
+    ∙ skip _ _ _ c.strings_broken.ensures c.in_default.is

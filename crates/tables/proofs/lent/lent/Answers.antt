@@ -24,186 +24,99 @@ turn t (suc k) (b ∷ bs) e = turn t k bs e
 
 pub returns-then-unfit : goal.returns-then-unfit
 unfolding lent_broken
-returns-then-unfit c = hit 1 0 ((let a = (c).args in
-    refused a.strings.now a.bytes.now a.symbols.now a.references.now a.functions.now a.members.now a.records.now)) (sym c.unfit.ensures ∙ c.if-unfit.true)
+returns-then-unfit c =
+    let a = c.args in
+    let t = refused a.strings.now a.bytes.now a.symbols.now a.references.now a.functions.now a.members.now a.records.now in
+    hit 1 0 t (sym c.unfit.ensures ∙ c.if-unfit.true)
 
 pub returns-then-unfit-2 : goal.returns-then-unfit-2
 unfolding lent_broken
-returns-then-unfit-2 c = hit 2 1 ((let a = c.args in
-    refused a.strings.now a.bytes.now a.symbols.now a.references.now a.functions.now a.members.now a.records.now)) (sym c.unfit-2.ensures ∙ c.if-unfit-2.true) ∙ (let
-    it : first_refused 2 (drop 1 ((let a = c.args in
-    refused a.strings.now a.bytes.now a.symbols.now a.references.now a.functions.now a.members.now a.records.now))) ≡ first_refused 1 ((let a = c.args in
-    refused a.strings.now a.bytes.now a.symbols.now a.references.now a.functions.now a.members.now a.records.now)) = turn 1 0 ((let a = ((c)).args in
-    refused a.strings.now a.bytes.now a.symbols.now a.references.now a.functions.now a.members.now a.records.now)) (sym c.unfit.ensures ∙ c.if-unfit.false) in it)
+returns-then-unfit-2 c =
+    let a = c.args in
+    let t = refused a.strings.now a.bytes.now a.symbols.now a.references.now a.functions.now a.members.now a.records.now in
+    hit 2 1 t (sym c.unfit-2.ensures ∙ c.if-unfit-2.true)
+    ∙ turn 1 0 t (sym c.unfit.ensures ∙ c.if-unfit.false)
 
 pub returns-then-unfit-3 : goal.returns-then-unfit-3
 unfolding lent_broken
-returns-then-unfit-3 c = hit 3 2 ((let a = c.args in
-    refused a.strings.now a.bytes.now a.symbols.now a.references.now a.functions.now a.members.now a.records.now)) (sym c.unfit-3.ensures ∙ c.if-unfit-3.true) ∙ (let
-    it : first_refused 3 (drop 2 ((let a = c.args in
-    refused a.strings.now a.bytes.now a.symbols.now a.references.now a.functions.now a.members.now a.records.now))) ≡ first_refused 1 ((let a = c.args in
-    refused a.strings.now a.bytes.now a.symbols.now a.references.now a.functions.now a.members.now a.records.now)) = turn 2 1 ((let a = c.args in
-    refused a.strings.now a.bytes.now a.symbols.now a.references.now a.functions.now a.members.now a.records.now)) (sym c.unfit-2.ensures ∙ c.if-unfit-2.false) ∙ (let
-    it : first_refused 2 (drop 1 ((let a = c.args in
-    refused a.strings.now a.bytes.now a.symbols.now a.references.now a.functions.now a.members.now a.records.now))) ≡ first_refused 1 ((let a = c.args in
-    refused a.strings.now a.bytes.now a.symbols.now a.references.now a.functions.now a.members.now a.records.now)) = turn 1 0 ((let a = ((c)).args in
-    refused a.strings.now a.bytes.now a.symbols.now a.references.now a.functions.now a.members.now a.records.now)) (sym c.unfit.ensures ∙ c.if-unfit.false) in it) in it)
+returns-then-unfit-3 c =
+    let a = c.args in
+    let t = refused a.strings.now a.bytes.now a.symbols.now a.references.now a.functions.now a.members.now a.records.now in
+    hit 3 2 t (sym c.unfit-3.ensures ∙ c.if-unfit-3.true)
+    ∙ turn 2 1 t (sym c.unfit-2.ensures ∙ c.if-unfit-2.false)
+    ∙ turn 1 0 t (sym c.unfit.ensures ∙ c.if-unfit.false)
 
 pub returns-then-unfit-4 : goal.returns-then-unfit-4
 unfolding lent_broken
-returns-then-unfit-4 c = hit 4 3 ((let a = c.args in
-    refused a.strings.now a.bytes.now a.symbols.now a.references.now a.functions.now a.members.now a.records.now)) (sym c.unfit-4.ensures ∙ c.if-unfit-4.true) ∙ (let
-    it : first_refused 4 (drop 3 ((let a = c.args in
-    refused a.strings.now a.bytes.now a.symbols.now a.references.now a.functions.now a.members.now a.records.now))) ≡ first_refused 1 ((let a = c.args in
-    refused a.strings.now a.bytes.now a.symbols.now a.references.now a.functions.now a.members.now a.records.now)) = turn 3 2 ((let a = c.args in
-    refused a.strings.now a.bytes.now a.symbols.now a.references.now a.functions.now a.members.now a.records.now)) (sym c.unfit-3.ensures ∙ c.if-unfit-3.false) ∙ (let
-    it : first_refused 3 (drop 2 ((let a = c.args in
-    refused a.strings.now a.bytes.now a.symbols.now a.references.now a.functions.now a.members.now a.records.now))) ≡ first_refused 1 ((let a = c.args in
-    refused a.strings.now a.bytes.now a.symbols.now a.references.now a.functions.now a.members.now a.records.now)) = turn 2 1 ((let a = c.args in
-    refused a.strings.now a.bytes.now a.symbols.now a.references.now a.functions.now a.members.now a.records.now)) (sym c.unfit-2.ensures ∙ c.if-unfit-2.false) ∙ (let
-    it : first_refused 2 (drop 1 ((let a = c.args in
-    refused a.strings.now a.bytes.now a.symbols.now a.references.now a.functions.now a.members.now a.records.now))) ≡ first_refused 1 ((let a = c.args in
-    refused a.strings.now a.bytes.now a.symbols.now a.references.now a.functions.now a.members.now a.records.now)) = turn 1 0 ((let a = ((c)).args in
-    refused a.strings.now a.bytes.now a.symbols.now a.references.now a.functions.now a.members.now a.records.now)) (sym c.unfit.ensures ∙ c.if-unfit.false) in it) in it) in it)
+returns-then-unfit-4 c =
+    let a = c.args in
+    let t = refused a.strings.now a.bytes.now a.symbols.now a.references.now a.functions.now a.members.now a.records.now in
+    hit 4 3 t (sym c.unfit-4.ensures ∙ c.if-unfit-4.true)
+    ∙ turn 3 2 t (sym c.unfit-3.ensures ∙ c.if-unfit-3.false)
+    ∙ turn 2 1 t (sym c.unfit-2.ensures ∙ c.if-unfit-2.false)
+    ∙ turn 1 0 t (sym c.unfit.ensures ∙ c.if-unfit.false)
 
 pub returns-then-unfit-5 : goal.returns-then-unfit-5
 unfolding lent_broken
-returns-then-unfit-5 c = hit 5 4 ((let a = c.args in
-    refused a.strings.now a.bytes.now a.symbols.now a.references.now a.functions.now a.members.now a.records.now)) (sym c.unfit-5.ensures ∙ c.if-unfit-5.true) ∙ (let
-    it : first_refused 5 (drop 4 ((let a = c.args in
-    refused a.strings.now a.bytes.now a.symbols.now a.references.now a.functions.now a.members.now a.records.now))) ≡ first_refused 1 ((let a = c.args in
-    refused a.strings.now a.bytes.now a.symbols.now a.references.now a.functions.now a.members.now a.records.now)) = turn 4 3 ((let a = c.args in
-    refused a.strings.now a.bytes.now a.symbols.now a.references.now a.functions.now a.members.now a.records.now)) (sym c.unfit-4.ensures ∙ c.if-unfit-4.false) ∙ (let
-    it : first_refused 4 (drop 3 ((let a = c.args in
-    refused a.strings.now a.bytes.now a.symbols.now a.references.now a.functions.now a.members.now a.records.now))) ≡ first_refused 1 ((let a = c.args in
-    refused a.strings.now a.bytes.now a.symbols.now a.references.now a.functions.now a.members.now a.records.now)) = turn 3 2 ((let a = c.args in
-    refused a.strings.now a.bytes.now a.symbols.now a.references.now a.functions.now a.members.now a.records.now)) (sym c.unfit-3.ensures ∙ c.if-unfit-3.false) ∙ (let
-    it : first_refused 3 (drop 2 ((let a = c.args in
-    refused a.strings.now a.bytes.now a.symbols.now a.references.now a.functions.now a.members.now a.records.now))) ≡ first_refused 1 ((let a = c.args in
-    refused a.strings.now a.bytes.now a.symbols.now a.references.now a.functions.now a.members.now a.records.now)) = turn 2 1 ((let a = c.args in
-    refused a.strings.now a.bytes.now a.symbols.now a.references.now a.functions.now a.members.now a.records.now)) (sym c.unfit-2.ensures ∙ c.if-unfit-2.false) ∙ (let
-    it : first_refused 2 (drop 1 ((let a = c.args in
-    refused a.strings.now a.bytes.now a.symbols.now a.references.now a.functions.now a.members.now a.records.now))) ≡ first_refused 1 ((let a = c.args in
-    refused a.strings.now a.bytes.now a.symbols.now a.references.now a.functions.now a.members.now a.records.now)) = turn 1 0 ((let a = ((c)).args in
-    refused a.strings.now a.bytes.now a.symbols.now a.references.now a.functions.now a.members.now a.records.now)) (sym c.unfit.ensures ∙ c.if-unfit.false) in it) in
-    it) in it) in it)
+returns-then-unfit-5 c =
+    let a = c.args in
+    let t = refused a.strings.now a.bytes.now a.symbols.now a.references.now a.functions.now a.members.now a.records.now in
+    hit 5 4 t (sym c.unfit-5.ensures ∙ c.if-unfit-5.true)
+    ∙ turn 4 3 t (sym c.unfit-4.ensures ∙ c.if-unfit-4.false)
+    ∙ turn 3 2 t (sym c.unfit-3.ensures ∙ c.if-unfit-3.false)
+    ∙ turn 2 1 t (sym c.unfit-2.ensures ∙ c.if-unfit-2.false)
+    ∙ turn 1 0 t (sym c.unfit.ensures ∙ c.if-unfit.false)
 
 pub returns-then-unfit-6 : goal.returns-then-unfit-6
 unfolding lent_broken
-returns-then-unfit-6 c = hit 6 5 ((let a = c.args in
-    refused a.strings.now a.bytes.now a.symbols.now a.references.now a.functions.now a.members.now a.records.now)) (sym c.unfit-6.ensures ∙ c.if-unfit-6.true) ∙ (let
-    it : first_refused 6 (drop 5 ((let a = c.args in
-    refused a.strings.now a.bytes.now a.symbols.now a.references.now a.functions.now a.members.now a.records.now))) ≡ first_refused 1 ((let a = c.args in
-    refused a.strings.now a.bytes.now a.symbols.now a.references.now a.functions.now a.members.now a.records.now)) = turn 5 4 ((let a = c.args in
-    refused a.strings.now a.bytes.now a.symbols.now a.references.now a.functions.now a.members.now a.records.now)) (sym c.unfit-5.ensures ∙ c.if-unfit-5.false) ∙ (let
-    it : first_refused 5 (drop 4 ((let a = c.args in
-    refused a.strings.now a.bytes.now a.symbols.now a.references.now a.functions.now a.members.now a.records.now))) ≡ first_refused 1 ((let a = c.args in
-    refused a.strings.now a.bytes.now a.symbols.now a.references.now a.functions.now a.members.now a.records.now)) = turn 4 3 ((let a = c.args in
-    refused a.strings.now a.bytes.now a.symbols.now a.references.now a.functions.now a.members.now a.records.now)) (sym c.unfit-4.ensures ∙ c.if-unfit-4.false) ∙ (let
-    it : first_refused 4 (drop 3 ((let a = c.args in
-    refused a.strings.now a.bytes.now a.symbols.now a.references.now a.functions.now a.members.now a.records.now))) ≡ first_refused 1 ((let a = c.args in
-    refused a.strings.now a.bytes.now a.symbols.now a.references.now a.functions.now a.members.now a.records.now)) = turn 3 2 ((let a = c.args in
-    refused a.strings.now a.bytes.now a.symbols.now a.references.now a.functions.now a.members.now a.records.now)) (sym c.unfit-3.ensures ∙ c.if-unfit-3.false) ∙ (let
-    it : first_refused 3 (drop 2 ((let a = c.args in
-    refused a.strings.now a.bytes.now a.symbols.now a.references.now a.functions.now a.members.now a.records.now))) ≡ first_refused 1 ((let a = c.args in
-    refused a.strings.now a.bytes.now a.symbols.now a.references.now a.functions.now a.members.now a.records.now)) = turn 2 1 ((let a = c.args in
-    refused a.strings.now a.bytes.now a.symbols.now a.references.now a.functions.now a.members.now a.records.now)) (sym c.unfit-2.ensures ∙ c.if-unfit-2.false) ∙ (let
-    it : first_refused 2 (drop 1 ((let a = c.args in
-    refused a.strings.now a.bytes.now a.symbols.now a.references.now a.functions.now a.members.now a.records.now))) ≡ first_refused 1 ((let a = c.args in
-    refused a.strings.now a.bytes.now a.symbols.now a.references.now a.functions.now a.members.now a.records.now)) = turn 1 0 ((let a = ((c)).args in
-    refused a.strings.now a.bytes.now a.symbols.now a.references.now a.functions.now a.members.now a.records.now)) (sym c.unfit.ensures ∙ c.if-unfit.false) in it) in
-    it) in it) in it) in it)
+returns-then-unfit-6 c =
+    let a = c.args in
+    let t = refused a.strings.now a.bytes.now a.symbols.now a.references.now a.functions.now a.members.now a.records.now in
+    hit 6 5 t (sym c.unfit-6.ensures ∙ c.if-unfit-6.true)
+    ∙ turn 5 4 t (sym c.unfit-5.ensures ∙ c.if-unfit-5.false)
+    ∙ turn 4 3 t (sym c.unfit-4.ensures ∙ c.if-unfit-4.false)
+    ∙ turn 3 2 t (sym c.unfit-3.ensures ∙ c.if-unfit-3.false)
+    ∙ turn 2 1 t (sym c.unfit-2.ensures ∙ c.if-unfit-2.false)
+    ∙ turn 1 0 t (sym c.unfit.ensures ∙ c.if-unfit.false)
 
 pub returns-then-unfit-7 : goal.returns-then-unfit-7
 unfolding lent_broken
-returns-then-unfit-7 c = let e = sym c.unfit-7.ensures ∙ c.if-unfit-7.true in hit 7 6 ((let a = c.args in
-    refused a.strings.now a.bytes.now a.symbols.now a.references.now a.functions.now a.members.now a.records.now)) (simp e) ∙ (let it : first_refused 7 (drop 6 ((let a
-    = c.args in
-    refused a.strings.now a.bytes.now a.symbols.now a.references.now a.functions.now a.members.now a.records.now))) ≡ first_refused 1 ((let a = c.args in
-    refused a.strings.now a.bytes.now a.symbols.now a.references.now a.functions.now a.members.now a.records.now)) = turn 6 5 ((let a = c.args in
-    refused a.strings.now a.bytes.now a.symbols.now a.references.now a.functions.now a.members.now a.records.now)) (sym c.unfit-6.ensures ∙ c.if-unfit-6.false) ∙ (let
-    it : first_refused 6 (drop 5 ((let a = c.args in
-    refused a.strings.now a.bytes.now a.symbols.now a.references.now a.functions.now a.members.now a.records.now))) ≡ first_refused 1 ((let a = c.args in
-    refused a.strings.now a.bytes.now a.symbols.now a.references.now a.functions.now a.members.now a.records.now)) = turn 5 4 ((let a = c.args in
-    refused a.strings.now a.bytes.now a.symbols.now a.references.now a.functions.now a.members.now a.records.now)) (sym c.unfit-5.ensures ∙ c.if-unfit-5.false) ∙ (let
-    it : first_refused 5 (drop 4 ((let a = c.args in
-    refused a.strings.now a.bytes.now a.symbols.now a.references.now a.functions.now a.members.now a.records.now))) ≡ first_refused 1 ((let a = c.args in
-    refused a.strings.now a.bytes.now a.symbols.now a.references.now a.functions.now a.members.now a.records.now)) = turn 4 3 ((let a = c.args in
-    refused a.strings.now a.bytes.now a.symbols.now a.references.now a.functions.now a.members.now a.records.now)) (sym c.unfit-4.ensures ∙ c.if-unfit-4.false) ∙ (let
-    it : first_refused 4 (drop 3 ((let a = c.args in
-    refused a.strings.now a.bytes.now a.symbols.now a.references.now a.functions.now a.members.now a.records.now))) ≡ first_refused 1 ((let a = c.args in
-    refused a.strings.now a.bytes.now a.symbols.now a.references.now a.functions.now a.members.now a.records.now)) = turn 3 2 ((let a = c.args in
-    refused a.strings.now a.bytes.now a.symbols.now a.references.now a.functions.now a.members.now a.records.now)) (sym c.unfit-3.ensures ∙ c.if-unfit-3.false) ∙ (let
-    it : first_refused 3 (drop 2 ((let a = c.args in
-    refused a.strings.now a.bytes.now a.symbols.now a.references.now a.functions.now a.members.now a.records.now))) ≡ first_refused 1 ((let a = c.args in
-    refused a.strings.now a.bytes.now a.symbols.now a.references.now a.functions.now a.members.now a.records.now)) = turn 2 1 ((let a = c.args in
-    refused a.strings.now a.bytes.now a.symbols.now a.references.now a.functions.now a.members.now a.records.now)) (sym c.unfit-2.ensures ∙ c.if-unfit-2.false) ∙ (let
-    it : first_refused 2 (drop 1 ((let a = c.args in
-    refused a.strings.now a.bytes.now a.symbols.now a.references.now a.functions.now a.members.now a.records.now))) ≡ first_refused 1 ((let a = c.args in
-    refused a.strings.now a.bytes.now a.symbols.now a.references.now a.functions.now a.members.now a.records.now)) = turn 1 0 ((let a = ((c)).args in
-    refused a.strings.now a.bytes.now a.symbols.now a.references.now a.functions.now a.members.now a.records.now)) (sym c.unfit.ensures ∙ c.if-unfit.false) in it) in
-    it) in it) in it) in it) in it)
+returns-then-unfit-7 c =
+    let a = c.args in
+    let t = refused a.strings.now a.bytes.now a.symbols.now a.references.now a.functions.now a.members.now a.records.now in
+    let e = sym c.unfit-7.ensures ∙ c.if-unfit-7.true in
+    hit 7 6 t (simp e)
+    ∙ turn 6 5 t (sym c.unfit-6.ensures ∙ c.if-unfit-6.false)
+    ∙ turn 5 4 t (sym c.unfit-5.ensures ∙ c.if-unfit-5.false)
+    ∙ turn 4 3 t (sym c.unfit-4.ensures ∙ c.if-unfit-4.false)
+    ∙ turn 3 2 t (sym c.unfit-3.ensures ∙ c.if-unfit-3.false)
+    ∙ turn 2 1 t (sym c.unfit-2.ensures ∙ c.if-unfit-2.false)
+    ∙ turn 1 0 t (sym c.unfit.ensures ∙ c.if-unfit.false)
 
 pub returns-then-records-eq0 : goal.returns-then-records-eq0
 unfolding lent_broken
 returns-then-records-eq0 c =
+    let a = c.args in
+    let t = refused a.strings.now a.bytes.now a.symbols.now a.references.now a.functions.now a.members.now a.records.now in
     let e = sym c.unfit-7.ensures ∙ c.if-unfit-7.false in
-    hit 7 6 ((let a = c.args in
-    refused a.strings.now a.bytes.now a.symbols.now a.references.now a.functions.now a.members.now a.records.now)) (simp (e, eq-eqb _ 0 c.if-records-eq0.true)) ∙ (let
-    it : first_refused 7 (drop 6 ((let a = c.args in
-    refused a.strings.now a.bytes.now a.symbols.now a.references.now a.functions.now a.members.now a.records.now))) ≡ first_refused 1 ((let a = c.args in
-    refused a.strings.now a.bytes.now a.symbols.now a.references.now a.functions.now a.members.now a.records.now)) = turn 6 5 ((let a = c.args in
-    refused a.strings.now a.bytes.now a.symbols.now a.references.now a.functions.now a.members.now a.records.now)) (sym c.unfit-6.ensures ∙ c.if-unfit-6.false) ∙ (let
-    it : first_refused 6 (drop 5 ((let a = c.args in
-    refused a.strings.now a.bytes.now a.symbols.now a.references.now a.functions.now a.members.now a.records.now))) ≡ first_refused 1 ((let a = c.args in
-    refused a.strings.now a.bytes.now a.symbols.now a.references.now a.functions.now a.members.now a.records.now)) = turn 5 4 ((let a = c.args in
-    refused a.strings.now a.bytes.now a.symbols.now a.references.now a.functions.now a.members.now a.records.now)) (sym c.unfit-5.ensures ∙ c.if-unfit-5.false) ∙ (let
-    it : first_refused 5 (drop 4 ((let a = c.args in
-    refused a.strings.now a.bytes.now a.symbols.now a.references.now a.functions.now a.members.now a.records.now))) ≡ first_refused 1 ((let a = c.args in
-    refused a.strings.now a.bytes.now a.symbols.now a.references.now a.functions.now a.members.now a.records.now)) = turn 4 3 ((let a = c.args in
-    refused a.strings.now a.bytes.now a.symbols.now a.references.now a.functions.now a.members.now a.records.now)) (sym c.unfit-4.ensures ∙ c.if-unfit-4.false) ∙ (let
-    it : first_refused 4 (drop 3 ((let a = c.args in
-    refused a.strings.now a.bytes.now a.symbols.now a.references.now a.functions.now a.members.now a.records.now))) ≡ first_refused 1 ((let a = c.args in
-    refused a.strings.now a.bytes.now a.symbols.now a.references.now a.functions.now a.members.now a.records.now)) = turn 3 2 ((let a = c.args in
-    refused a.strings.now a.bytes.now a.symbols.now a.references.now a.functions.now a.members.now a.records.now)) (sym c.unfit-3.ensures ∙ c.if-unfit-3.false) ∙ (let
-    it : first_refused 3 (drop 2 ((let a = c.args in
-    refused a.strings.now a.bytes.now a.symbols.now a.references.now a.functions.now a.members.now a.records.now))) ≡ first_refused 1 ((let a = c.args in
-    refused a.strings.now a.bytes.now a.symbols.now a.references.now a.functions.now a.members.now a.records.now)) = turn 2 1 ((let a = c.args in
-    refused a.strings.now a.bytes.now a.symbols.now a.references.now a.functions.now a.members.now a.records.now)) (sym c.unfit-2.ensures ∙ c.if-unfit-2.false) ∙ (let
-    it : first_refused 2 (drop 1 ((let a = c.args in
-    refused a.strings.now a.bytes.now a.symbols.now a.references.now a.functions.now a.members.now a.records.now))) ≡ first_refused 1 ((let a = c.args in
-    refused a.strings.now a.bytes.now a.symbols.now a.references.now a.functions.now a.members.now a.records.now)) = turn 1 0 ((let a = ((c)).args in
-    refused a.strings.now a.bytes.now a.symbols.now a.references.now a.functions.now a.members.now a.records.now)) (sym c.unfit.ensures ∙ c.if-unfit.false) in it) in
-    it) in it) in it) in it) in it)
+    hit 7 6 t (simp (e, eq-eqb _ 0 c.if-records-eq0.true))
+    ∙ turn 6 5 t (sym c.unfit-6.ensures ∙ c.if-unfit-6.false)
+    ∙ turn 5 4 t (sym c.unfit-5.ensures ∙ c.if-unfit-5.false)
+    ∙ turn 4 3 t (sym c.unfit-4.ensures ∙ c.if-unfit-4.false)
+    ∙ turn 3 2 t (sym c.unfit-3.ensures ∙ c.if-unfit-3.false)
+    ∙ turn 2 1 t (sym c.unfit-2.ensures ∙ c.if-unfit-2.false)
+    ∙ turn 1 0 t (sym c.unfit.ensures ∙ c.if-unfit.false)
 
 pub returns : goal.returns
 unfolding lent_broken
 returns c =
+    let a = c.args in
+    let t = refused a.strings.now a.bytes.now a.symbols.now a.references.now a.functions.now a.members.now a.records.now in
     let e = sym c.unfit-7.ensures ∙ c.if-unfit-7.false in
-    turn 7 6 ((let a = c.args in
-    refused a.strings.now a.bytes.now a.symbols.now a.references.now a.functions.now a.members.now a.records.now)) (simp (e, ne_eqb _ 0 c.if-records-eq0.false)) ∙ (let
-    it : first_refused 7 (drop 6 ((let a = c.args in
-    refused a.strings.now a.bytes.now a.symbols.now a.references.now a.functions.now a.members.now a.records.now))) ≡ first_refused 1 ((let a = c.args in
-    refused a.strings.now a.bytes.now a.symbols.now a.references.now a.functions.now a.members.now a.records.now)) = turn 6 5 ((let a = c.args in
-    refused a.strings.now a.bytes.now a.symbols.now a.references.now a.functions.now a.members.now a.records.now)) (sym c.unfit-6.ensures ∙ c.if-unfit-6.false) ∙ (let
-    it : first_refused 6 (drop 5 ((let a = c.args in
-    refused a.strings.now a.bytes.now a.symbols.now a.references.now a.functions.now a.members.now a.records.now))) ≡ first_refused 1 ((let a = c.args in
-    refused a.strings.now a.bytes.now a.symbols.now a.references.now a.functions.now a.members.now a.records.now)) = turn 5 4 ((let a = c.args in
-    refused a.strings.now a.bytes.now a.symbols.now a.references.now a.functions.now a.members.now a.records.now)) (sym c.unfit-5.ensures ∙ c.if-unfit-5.false) ∙ (let
-    it : first_refused 5 (drop 4 ((let a = c.args in
-    refused a.strings.now a.bytes.now a.symbols.now a.references.now a.functions.now a.members.now a.records.now))) ≡ first_refused 1 ((let a = c.args in
-    refused a.strings.now a.bytes.now a.symbols.now a.references.now a.functions.now a.members.now a.records.now)) = turn 4 3 ((let a = c.args in
-    refused a.strings.now a.bytes.now a.symbols.now a.references.now a.functions.now a.members.now a.records.now)) (sym c.unfit-4.ensures ∙ c.if-unfit-4.false) ∙ (let
-    it : first_refused 4 (drop 3 ((let a = c.args in
-    refused a.strings.now a.bytes.now a.symbols.now a.references.now a.functions.now a.members.now a.records.now))) ≡ first_refused 1 ((let a = c.args in
-    refused a.strings.now a.bytes.now a.symbols.now a.references.now a.functions.now a.members.now a.records.now)) = turn 3 2 ((let a = c.args in
-    refused a.strings.now a.bytes.now a.symbols.now a.references.now a.functions.now a.members.now a.records.now)) (sym c.unfit-3.ensures ∙ c.if-unfit-3.false) ∙ (let
-    it : first_refused 3 (drop 2 ((let a = c.args in
-    refused a.strings.now a.bytes.now a.symbols.now a.references.now a.functions.now a.members.now a.records.now))) ≡ first_refused 1 ((let a = c.args in
-    refused a.strings.now a.bytes.now a.symbols.now a.references.now a.functions.now a.members.now a.records.now)) = turn 2 1 ((let a = c.args in
-    refused a.strings.now a.bytes.now a.symbols.now a.references.now a.functions.now a.members.now a.records.now)) (sym c.unfit-2.ensures ∙ c.if-unfit-2.false) ∙ (let
-    it : first_refused 2 (drop 1 ((let a = c.args in
-    refused a.strings.now a.bytes.now a.symbols.now a.references.now a.functions.now a.members.now a.records.now))) ≡ first_refused 1 ((let a = c.args in
-    refused a.strings.now a.bytes.now a.symbols.now a.references.now a.functions.now a.members.now a.records.now)) = turn 1 0 ((let a = ((c)).args in
-    refused a.strings.now a.bytes.now a.symbols.now a.references.now a.functions.now a.members.now a.records.now)) (sym c.unfit.ensures ∙ c.if-unfit.false) in it) in
-    it) in it) in it) in it) in it)
+    turn 7 6 t (simp (e, ne_eqb _ 0 c.if-records-eq0.false))
+    ∙ turn 6 5 t (sym c.unfit-6.ensures ∙ c.if-unfit-6.false)
+    ∙ turn 5 4 t (sym c.unfit-5.ensures ∙ c.if-unfit-5.false)
+    ∙ turn 4 3 t (sym c.unfit-4.ensures ∙ c.if-unfit-4.false)
+    ∙ turn 3 2 t (sym c.unfit-3.ensures ∙ c.if-unfit-3.false)
+    ∙ turn 2 1 t (sym c.unfit-2.ensures ∙ c.if-unfit-2.false)
+    ∙ turn 1 0 t (sym c.unfit.ensures ∙ c.if-unfit.false)
