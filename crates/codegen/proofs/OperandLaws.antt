@@ -46,7 +46,8 @@ use Rattle.rules.specs.Step.{
 }
 use Rattle.rules.specs.Arms.{function_steps, stream_steps}
 use Rattle.rules.specs.Kinds.{steps}
-use Rattle.rules.specs.Run.{Loop, loop, State, st, marks, labels, loops, emit, bump, halt, begin, drop1, finish, way_out, outward, barred, spot_at, number_of, Lookup, sought, settle, kept, nested, idle, keeping, Mode, exec, child_visit, stream, visits_of, anew, alone}
+use Rattle.rules.specs.Run.{Loop, loop, State, st, marks, labels, loops, emit, bump, halt, begin, drop1, finish, way_out, outward, barred, spot_at, number_of}
+use Rattle.rules.specs.Run.{Lookup, sought, settle, kept, nested, idle, keeping, Mode, exec, child_visit, stream, visits_of, anew, alone}
 use Rattle.rules.proofs.Visits.{visit_of}
 use Rattle.rules.proofs.StepsOk.{function_only}
 use Rattle.rules.proofs.Tame.{no_name, no_function, held_by, tame, tally, Modest}

@@ -1,6 +1,7 @@
 // The frame of a run, the Rust's `self`: words of a lent array. No other file knows their places.
 ghost use Rattle.std.specs.Prelude.{◌≡◌, set};
-ghost use Rattle.emit.specs.Words.{cap, MARKERS, LABELS, CONSTS, DEPTH, ERRORS, FUNCTIONS, FUNCTION, PAST, at, put, goes, nests as nests_of, flow_in, flow_words, code_of, code_in, bit as bit_of};
+ghost use Rattle.emit.specs.Words.{cap, MARKERS, LABELS, CONSTS, DEPTH, ERRORS, FUNCTIONS, FUNCTION, PAST, at, put, goes, nests as nests_of, flow_in, flow_words};
+ghost use Rattle.emit.specs.Words.{code_of, code_in, bit as bit_of};
 ghost use Rattle.emit.specs.Sinks.{beginning, loop_at, loop_set};
 
 use crate::word::{capped, wide};

@@ -164,7 +164,8 @@ Holds (input line) strings' bytes' symbols' references' functions' members' reco
 Holds (tables t) strings' bytes' symbols' references' functions' members' records' = Begin t strings' bytes' symbols' references' functions' members' records'
 
 -- lists that are as they were past the tables
-pub record Past (t : Tables) (strings₀ bytes₀ symbols₀ references₀ functions₀ members₀ records₀ strings' bytes' symbols' references' functions' members' records' : List ℕ) : Type 0 where
+pub record Past (t : Tables) (strings₀ bytes₀ symbols₀ references₀ functions₀ members₀ records₀
+    strings' bytes' symbols' references' functions' members' records' : List ℕ) : Type 0 where
   pub strings : drop (length t.strings) strings' ≡ drop (length t.strings) strings₀
   pub bytes : drop (length t.bytes) bytes' ≡ drop (length t.bytes) bytes₀
   pub symbols : drop (length t.symbols) symbols' ≡ drop (length t.symbols) symbols₀
@@ -176,4 +177,5 @@ pub record Past (t : Tables) (strings₀ bytes₀ symbols₀ references₀ funct
 -- what else the lent tables hold afterwards: where the text could be read, nothing past its tables is changed
 abbrev pub Stays : Outcome → (strings₀ bytes₀ symbols₀ references₀ functions₀ members₀ records₀ strings' bytes' symbols' references' functions' members' records' : List ℕ) → Type 0
 Stays (input line) strings₀ bytes₀ symbols₀ references₀ functions₀ members₀ records₀ strings' bytes' symbols' references' functions' members' records' = Unit
-Stays (tables t) strings₀ bytes₀ symbols₀ references₀ functions₀ members₀ records₀ strings' bytes' symbols' references' functions' members' records' = Past t strings₀ bytes₀ symbols₀ references₀ functions₀ members₀ records₀ strings' bytes' symbols' references' functions' members' records'
+Stays (tables t) strings₀ bytes₀ symbols₀ references₀ functions₀ members₀ records₀ strings' bytes' symbols' references' functions' members' records' =
+    Past t strings₀ bytes₀ symbols₀ references₀ functions₀ members₀ records₀ strings' bytes' symbols' references' functions' members' records'

@@ -328,7 +328,8 @@ named_all cs (x ∷ xs) i h g = go (seen cs x.value) refl (ℕ_discrete (length 
 
 -- of a function's table: Null, then what was added
 pub record Right (xs : List Const) : Type 0 where
-  pub differing : (i j : ℕ) → i < j → j < length (interned start xs) → same (get_or (interned start xs) i (made Null)).value (get_or (interned start xs) j (made Null)).value ≡ false
+  pub differing : (i j : ℕ) → i < j → j < length (interned start xs)
+      → same (get_or (interned start xs) i (made Null)).value (get_or (interned start xs) j (made Null)).value ≡ false
   pub inside : (c : Const) → Memᴰ c xs → find (interned start xs) c.value < length (interned start xs)
   pub null_first : find (interned start xs) Null ≡ 0
   pub named : (i : ℕ) → 1 ≤ i → i < length (interned start xs) → Named (interned start xs) xs i

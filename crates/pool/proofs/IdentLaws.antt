@@ -195,7 +195,8 @@ module _ (recs symbols references sc ns : List ℕ) where
             less : y < x
             less = next_less idents sc x y ey (λ z. omega arith)
 
-            back : size recs ≤ 4096 → IdentChains recs owners (size recs) sc → Halting recs owners sc x → (q : ℕ) → Behind recs owners sc y q → (Behind recs owners sc x q) ⊎ (q ≡ x)
+            back : size recs ≤ 4096 → IdentChains recs owners (size recs) sc → Halting recs owners sc x → (q : ℕ) → Behind recs owners sc y q
+                → (Behind recs owners sc x q) ⊎ (q ≡ x)
             back few chains s q (inl i) = inl (inl i)
             back few chains s q (inr l) = at (ℕ_discrete q x) (split (suc x) q)
               where

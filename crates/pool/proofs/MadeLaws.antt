@@ -11,7 +11,8 @@ use lib.Seq.{sets, length-sets}
 use borrow.Author.Tests.{le-leb}
 use Rattle.tables.proofs.SemanticLaws.{split, start_mono}
 use Rattle.pool.specs.Names.{Semantic, function_count, count_of_members, start_of_share, share, Names, names, names_upto}
-use Rattle.pool.specs.NameWords.{words_of, entries_of, all_entries, entries_laid, span_words, span_for, spans_from, put_span, span_of, class_of, made, fits, entries_after, spans_after}
+use Rattle.pool.specs.NameWords.{words_of, entries_of, all_entries, entries_laid, span_words, span_for, spans_from, put_span, span_of, class_of, made, fits}
+use Rattle.pool.specs.NameWords.{entries_after, spans_after}
 use Rattle.pool.specs.NameSteps.{entries_named, spans_named, Stands, Fits, parent_owner, owner_names}
 use Rattle.pool.specs.ResolveSteps.{Made}
 use Rattle.pool.specs.declared.names.Class.{Class}
@@ -37,7 +38,8 @@ made_weaken t done done' ws₀ sp₀ ws sp h m =
 
 module _ (t : Semantic) (ws₀ sp₀ : List ℕ) (fit : Fits t (length ws₀) (length sp₀)) where
   -- shares of different functions lie apart
-  apart : (f g : ℕ) → f < function_count t → g < function_count t → (f ≡ g → ⊥) → (start_of_share t f + count_of_members t f ≤ start_of_share t g) ⊎ (start_of_share t g + count_of_members t g ≤ start_of_share t f)
+  apart : (f g : ℕ) → f < function_count t → g < function_count t → (f ≡ g → ⊥)
+      → (start_of_share t f + count_of_members t f ≤ start_of_share t g) ⊎ (start_of_share t g + count_of_members t g ≤ start_of_share t f)
   apart f g p q d = go (split (suc f) g)
     where
       go : (suc f ≤ g) ⊎ (g < suc f) → (start_of_share t f + count_of_members t f ≤ start_of_share t g) ⊎ (start_of_share t g + count_of_members t g ≤ start_of_share t f)
@@ -131,7 +133,8 @@ module _ (t : Semantic) (ws₀ sp₀ : List ℕ) (fit : Fits t (length ws₀) (l
             (subst (λ (l : List ℕ). Stands l (f * 4) (span_words (span_for a n))) (sym places)
             (sets_stand (span_words (span_for a n)) sp (f * 4) (omega (arith, m.spans_long, fit.spans_room))))
         go (no z) (inr x) = absurd (z x)
-        go (no z) (inl x) = stands_same sp sp' (g * 4) (span_words (span_for (start_of_share t g) (names t g))) (λ j u v. span_other j (side j u v (split (suc g) f))) (m.spans g p x)
+        go (no z) (inl x) = stands_same sp sp' (g * 4) (span_words (span_for (start_of_share t g) (names t g)))
+            (λ j u v. span_other j (side j u v (split (suc g) f))) (m.spans g p x)
           where
             side : (j : ℕ) → g * 4 ≤ j → j < g * 4 + 4 → (suc g ≤ f) ⊎ (f < suc g) → (j < f * 4) ⊎ (f * 4 + 4 ≤ j)
             side j u v (inl y) = inl (omega arith)

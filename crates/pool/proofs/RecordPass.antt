@@ -111,7 +111,8 @@ module _ (recs ns₀ ws₀ : List ℕ) where
       }
 
   -- the record r: its owner is o, its links x and y
-  module _ (few : size recs ≤ 4096) (r : ℕ) (ns ws a b c ns' ws' : List ℕ) (x y o t : ℕ) (inside : r < size recs) (h : Passing r ns ws a) (ex : x ≡ first recs r) (ey : y ≡ next recs r)
+  module _ (few : size recs ≤ 4096) (r : ℕ) (ns ws a b c ns' ws' : List ℕ) (x y o t : ℕ) (inside : r < size recs) (h : Passing r ns ws a)
+      (ex : x ≡ first recs r) (ey : y ≡ next recs r)
       (eo : o ≡ get_or a r 0) (et : t ≡ own_down recs r o) (eb : length a ≡ 4096 → b ≡ handed a x t) (ec : length b ≡ 4096 → c ≡ handed b y o)
       (en : ns' ≡ note_earlier ns y r)
       (ew : ((is_ident (words recs r) ≡ true) × (ws' ≡ chained idents ws o r)) ⊎ ((is_ident (words recs r) ≡ false) × (ws' ≡ ws))) where

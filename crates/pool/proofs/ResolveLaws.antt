@@ -68,7 +68,8 @@ ident_kept recs owners n ws ws' few e h =
     chain_words idents _ _ ws ws' n few (λ o p. e (1025 + o) (omega arith) (λ k q z. omega arith, λ i q z. omega arith))
     (λ i p. e (1796 + i) (omega arith) (λ k q z. omega arith, λ k q z. omega arith)) h
 
-inner_kept : (functions : List ℕ) (n : ℕ) (ws ws' : List ℕ) → n ≤ 257 → ((j : ℕ) → OWNER < j → get_or ws' j 0 ≡ get_or ws j 0) → InnerChains functions n ws → InnerChains functions n ws'
+inner_kept : (functions : List ℕ) (n : ℕ) (ws ws' : List ℕ) → n ≤ 257 → ((j : ℕ) → OWNER < j → get_or ws' j 0 ≡ get_or ws j 0) → InnerChains functions n ws
+    → InnerChains functions n ws'
 inner_kept functions n ws ws' few e h = chain_words inners _ _ ws ws' n few (λ o p. e (1282 + o) (omega arith)) (λ i p. e (1539 + i) (omega arith)) h
 
 module _ (t : Semantic) (recs : List ℕ) where

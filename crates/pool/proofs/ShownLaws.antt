@@ -184,8 +184,10 @@ module _ (t : Semantic) (entries spans : ℕ) (fits : Fits t entries spans) (f :
       record {
         shown =
             record {
-              locals = λ s. stamped_locals cl ss share_few share_slotted sc es (start_of_share t f) (suc f) long lim below st sc' eq s ∙ ap (λ (m : Names). index_of m.locals s) own;
-              globals = λ s. stamped_globals cl ss share_few share_slotted sc es (start_of_share t f) (suc f) long lim below st sc' eq s ∙ ap (λ (m : Names). index_of m.globals s) own;
+              locals = λ s. stamped_locals cl ss share_few share_slotted sc es (start_of_share t f) (suc f) long lim below st sc' eq s
+                  ∙ ap (λ (m : Names). index_of m.locals s) own;
+              globals = λ s. stamped_globals cl ss share_few share_slotted sc es (start_of_share t f) (suc f) long lim below st sc' eq s
+                  ∙ ap (λ (m : Names). index_of m.globals s) own;
               upvalues = λ s. stamped_upvalues cl ss share_few share_slotted sc es (start_of_share t f) (suc f) long lim below st sc' eq s
                   ∙ ap (λ (m : Names). index_of (upvalue_symbols m.upvalues) s) own;
             };

@@ -11,10 +11,13 @@ use Rattle.tables.proofs.ForestLaws.{Each, each, each_at, Genuine, genuine}
 use Rattle.pool.specs.Names.{Access, local, global, upvalue, missing}
 use Rattle.rules.specs.declared.StackCode.{StackCode}
 use Rattle.rules.specs.Marker.{Way, Code, Pop, LoadLocals, Return, Label, To, Back, Load, Do, Mark, mark}
-use Rattle.rules.specs.Step.{Role, Expr, pass, keep, Use, Step, push_op, push_const, get_label, place, jump, jump_back, visit, begin_loop, end_loop, exit, check_return, access, refuse, inner, expr}
+use Rattle.rules.specs.Step.{Role, Expr, pass, keep, Use, Step, push_op, push_const, get_label, place, jump, jump_back, visit, begin_loop, end_loop, exit}
+use Rattle.rules.specs.Step.{check_return, access, refuse, inner, expr}
 use Rattle.rules.specs.Arms.{stream_steps}
 use Rattle.rules.specs.Kinds.{steps}
-use Rattle.rules.specs.Run.{Lookup, Loop, loop, Stream, Side, State, st, flow, side, marks, loops, opened, labels, emit, bump, halt, begin, finish, way_out, outward, barred, sought, settle, kept, anew, returned, entered, nested, idle, Mode, act, named, exec, Visit, absent, child_visit, stream, visit_alg, visits_of, function_run, nothing, alone, spot_at, number_of}
+use Rattle.rules.specs.Run.{Lookup, Loop, loop, Stream, Side, State, st, flow, side, marks, loops, opened, labels, emit, bump, halt, begin, finish, way_out, outward}
+use Rattle.rules.specs.Run.{barred, sought, settle, kept, anew, returned, entered, nested, idle, Mode, act, named, exec, Visit, absent, child_visit, stream}
+use Rattle.rules.specs.Run.{visit_alg, visits_of, function_run, nothing, alone, spot_at, number_of}
 use Rattle.rules.specs.declared.Flow.{Flow}
 use Rattle.rules.specs.declared.Flow.TheVariants.{Go, Cut, Refused}
 use Rattle.rules.proofs.Sticky.{Sticky, emit_sticky, exec_sticky, visits_sticky}

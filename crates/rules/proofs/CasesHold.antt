@@ -10,7 +10,8 @@ use Rattle.pool.specs.Names.{index_of, with_symbol, with_symbols, names_upto, na
 use Rattle.rules.specs.declared.StackCode.TheVariants.{Code1}
 use Rattle.rules.specs.Kinds.{steps}
 use Rattle.rules.specs.Run.{emit, bump, halt, begin, finish, outward, barred, kept, nested, exec, stream, run}
-use Rattle.rules.specs.Out.{Outcome, listed, refused, consts, marker_words, const_words, plain_names, upvalue_words, error_words, loop_depth, stream_numbered, each_function, outcome}
+use Rattle.rules.specs.Out.{Outcome, listed, refused, consts, marker_words, const_words, plain_names, upvalue_words, error_words, loop_depth, stream_numbered}
+use Rattle.rules.specs.Out.{each_function, outcome}
 use Rattle.rules.specs.Cases.{Case, cases, empty}
 use Rattle.rules.specs.RequestCases.{Request, requests}
 

@@ -11,7 +11,8 @@ use Rattle.opcode.specs.Kinds.{operand_kind}
 use Rattle.opcode.specs.declared.opcode.OperandKind.TheVariants as kind
 use Rattle.opcode.specs.declared.tables.KindLookup.TheVariants as lookup
 use Rattle.pool.specs.Value.{Value, plain, effect, Const, find, seen, intern}
-use Rattle.pool.proofs.ConstsLaws.{find_unseen, find_seen, intern_old, intern_new, find_intern, seen_intern, find_later, seen_later, Different, different_start, different_intern, differ}
+use Rattle.pool.proofs.ConstsLaws.{find_unseen, find_seen, intern_old, intern_new, find_intern, seen_intern, find_later, seen_later, Different, different_start}
+use Rattle.pool.proofs.ConstsLaws.{different_intern, differ}
 use Rattle.rules.specs.Marker.{ConstOp, LoadConst, Import, ImportFrom, Op, Label, To, Back, Leave, Load, Do, Mark, mark}
 use Rattle.rules.specs.Out.{brought, consts, const_number, code_word, operand_word}
 use Rattle.rules.specs.Demand.{code, operand, no_const, Constants, KnownFunction}

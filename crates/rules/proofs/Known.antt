@@ -14,10 +14,13 @@ use Rattle.pool.specs.Names.{Access, local, global, upvalue, missing}
 use Rattle.pool.specs.Value.{Value, plain, effect, function}
 use Rattle.rules.specs.declared.StackCode.{StackCode}
 use Rattle.rules.specs.Marker.{Way, Pop, Call, LoadUpvalue, LoadLocals, Return, LoadConst, Label, To, Back, Leave, Load, Do, Mark, mark}
-use Rattle.rules.specs.Step.{Role, pass, keep, Use, Step, push_op, push_const, get_label, place, jump, jump_back, visit, begin_loop, end_loop, exit, check_return, access, refuse, inner, expr, load}
+use Rattle.rules.specs.Step.{Role, pass, keep, Use, Step, push_op, push_const, get_label, place, jump, jump_back, visit, begin_loop, end_loop, exit, check_return}
+use Rattle.rules.specs.Step.{access, refuse, inner, expr, load}
 use Rattle.rules.specs.Arms.{stream_steps}
 use Rattle.rules.specs.Kinds.{steps}
-use Rattle.rules.specs.Run.{Lookup, Loop, loop, way_kind, label_of, local_code, global_code, Stream, Side, State, st, marks, labels, loops, flow, side, emit, bump, halt, begin, finish, way_out, outward, barred, sought, settle, kept, anew, returned, entered, nested, idle, full, act, named, exec, Visit, absent, child_visit, stream, visit_alg, visits_of, nothing, run, spot_at, number_of}
+use Rattle.rules.specs.Run.{Lookup, Loop, loop, way_kind, label_of, local_code, global_code, Stream, Side, State, st, marks, labels, loops, flow, side, emit, bump}
+use Rattle.rules.specs.Run.{halt, begin, finish, way_out, outward, barred, sought, settle, kept, anew, returned, entered, nested, idle, full, act, named, exec}
+use Rattle.rules.specs.Run.{Visit, absent, child_visit, stream, visit_alg, visits_of, nothing, run, spot_at, number_of}
 use Rattle.rules.specs.declared.Flow.{Flow}
 use Rattle.rules.specs.declared.Flow.TheVariants.{Go, Cut, Refused}
 use Rattle.rules.proofs.StepsOk.{function_only}

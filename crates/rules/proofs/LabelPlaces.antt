@@ -10,7 +10,8 @@ use lib.Dec.{T}
 use Rattle.tables.specs.Forest.{Forest}
 use Rattle.opcode.specs.Kinds.{is_target}
 use Rattle.pool.specs.Value.{Const}
-use Rattle.rules.specs.Marker.{Forward, Jump, PopJumpIfFalse, JumpIfTrueOrPop, JumpIfFalseOrPop, JumpPopIfNull, RegisterHandler, Break, Continue, Op, Label, To, Back, Leave, Load, Do, Mark, mark}
+use Rattle.rules.specs.Marker.{Forward, Jump, PopJumpIfFalse, JumpIfTrueOrPop, JumpIfFalseOrPop, JumpPopIfNull, RegisterHandler, Break, Continue, Op, Label, To}
+use Rattle.rules.specs.Marker.{Back, Leave, Load, Do, Mark, mark}
 use Rattle.rules.specs.Run.{Loop}
 use Rattle.rules.specs.Out.{code_word, operand_word, forward_number}
 use Rattle.rules.specs.Demand.{code, operand, Places, Stands, Labels, record_of}

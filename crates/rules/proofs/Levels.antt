@@ -135,7 +135,8 @@ both_hold P R (x ∷ xs) (h, hs) (g, gs) = ((h, g), both_hold P R xs hs gs)
 -- the stream of each function met, by its number: it is that of its record walked alone with the newest n open loops kept
 pub met_alone : (sc : StackCode) (t : Lookup) (recs : List ℕ) (n : ℕ) → is_function (words recs 0) ≡ true → levels (root recs) ≤ n → Runs (flow (run sc t recs)) → (i :
     ℕ) → i < (side (run sc t recs)).met
-    → (Is-alone sc t (front n) recs (stream_numbered (streams (run sc t recs)) i) × Within recs n (stream_numbered (streams (run sc t recs)) i).at) × ((stream_numbered (streams (run sc
+    → (Is-alone sc t (front n) recs (stream_numbered (streams (run sc t recs)) i) × Within recs n (stream_numbered (streams (run sc t recs)) i).at)
+    × ((stream_numbered (streams (run sc
     t recs)) i).number ≡ i)
 met_alone sc t recs n f h c i g =
     stream_found (λ x. Is-alone sc t (front n) recs x × Within recs n x.at) (streams (run sc t recs)) i

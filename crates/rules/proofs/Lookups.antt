@@ -41,7 +41,8 @@ use Rattle.rules.specs.Step.{
 }
 use Rattle.rules.specs.Arms.{function_steps}
 use Rattle.rules.specs.Kinds.{steps}
-use Rattle.rules.specs.Run.{State, st, emit, here, nowhere, from_tree, spot_below, spot_at, number_of, Lookup, sought, settle, kept, anew, returned, entered, nested, idle, keeping, Mode, exec, Visit, absent, child_visit, stream, visit_alg, visits_of, function_run, flat, alone}
+use Rattle.rules.specs.Run.{State, st, emit, here, nowhere, from_tree, spot_below, spot_at, number_of, Lookup, sought, settle, kept, anew, returned, entered, nested}
+use Rattle.rules.specs.Run.{idle, keeping, Mode, exec, Visit, absent, child_visit, stream, visit_alg, visits_of, function_run, flat, alone}
 use Rattle.rules.proofs.StepsOk.{function_only}
 use Rattle.rules.proofs.Tame.{no_name, no_function, pure}
 use Rattle.rules.proofs.Pure.{steps_pure}

@@ -20,7 +20,8 @@ use Rattle.rules.specs.Kinds.{steps, steps_of, kinds}
 use Rattle.rules.specs.MarkerCount.{step_markers, list_markers, child_markers, markers_in, markers_counted}
 use Rattle.rules.specs.declared.Flow.{Flow}
 use Rattle.rules.specs.declared.Flow.TheVariants.{Go, Cut, Refused}
-use Rattle.rules.specs.Run.{Lookup, Loop, loop, Stream, Side, State, st, marks, side, emit, bump, halt, begin, finish, way_kind, outward, barred, number_of, spot_at, sought, settle, kept, anew, returned, entered, nested, idle, keeping, full, act, exec, child_visit, stream, visits_of, nothing, run}
+use Rattle.rules.specs.Run.{Lookup, Loop, loop, Stream, Side, State, st, marks, side, emit, bump, halt, begin, finish, way_kind, outward, barred, number_of, spot_at}
+use Rattle.rules.specs.Run.{sought, settle, kept, anew, returned, entered, nested, idle, keeping, full, act, exec, child_visit, stream, visits_of, nothing, run}
 use Rattle.rules.specs.Out.{stream_numbered}
 use Rattle.rules.proofs.Count.{inside_at}
 use Rattle.rules.proofs.StepsOk.{function_only}

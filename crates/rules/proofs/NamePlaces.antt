@@ -83,7 +83,8 @@ use Rattle.rules.specs.Marker.{
   Mark,
   mark,
 }
-use Rattle.rules.specs.Step.{Role, Use, Get, Set, Step, push_op, push_const, get_label, place, jump, jump_back, visit, begin_loop, end_loop, exit, check_return, access, refuse, inner, expr, load}
+use Rattle.rules.specs.Step.{Role, Use, Get, Set, Step, push_op, push_const, get_label, place, jump, jump_back, visit, begin_loop, end_loop, exit, check_return}
+use Rattle.rules.specs.Step.{access, refuse, inner, expr, load}
 use Rattle.rules.specs.Arms.{stream_steps}
 use Rattle.rules.specs.Kinds.{steps}
 use Rattle.rules.specs.Run.{Loop, loop, drop1, Spot, here, nowhere, spot_at, look}

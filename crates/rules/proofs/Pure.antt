@@ -395,7 +395,8 @@ module _ (top : ℕ) where
   befores_tame : (w : Words) (k : Nodes) → Tame (before_steps w k)
   unfolding tame
   befores_tame w k =
-      either (eqb w.detail 0) _ _ tt (either (ltb w.detail 4) _ _ (property_tame (w.detail - 1) k (push_op Copy 2 ∷ push_op Copy 2 ∷ push_op (get_code (w.detail - 1)) 0 ∷ []) got) got)
+      either (eqb w.detail 0) _ _ tt (either (ltb w.detail 4) _ _
+      (property_tame (w.detail - 1) k (push_op Copy 2 ∷ push_op Copy 2 ∷ push_op (get_code (w.detail - 1)) 0 ∷ []) got) got)
     where
       got : T (no_name (get_code (w.detail - 1)) && true)
       got = both (no_name (get_code (w.detail - 1))) true (get_pure (w.detail - 1)) tt

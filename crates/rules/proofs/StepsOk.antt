@@ -11,7 +11,9 @@ use Rattle.rules.specs.declared.StackCode.{StackCode}
 use Rattle.rules.specs.declared.StackCode.TheVariants.{Code1, Code2}
 use Rattle.rules.specs.Marker.{BuildTable, BuildList, Code, Pop, Copy, Call, ReturnCall}
 use Rattle.rules.specs.Step.{Role, Expr, Callee, Tail, Target, Before, After, Set, Step, push_op, place, jump_back, end_loop, access, expr, null, visits, visits_down, width}
-use Rattle.rules.specs.Arms.{no_opcode, is_short_form, is_method, method_steps, unlabelled, member_steps, call_steps, items_stored, is_tail, return_steps, simple_import, import_steps, assign_op_steps, assign_unpack_steps, assign_multi_steps, binary_steps, for_steps, unpacked, function_steps, stream_steps, target_steps, before_steps, after_steps}
+use Rattle.rules.specs.Arms.{no_opcode, is_short_form, is_method, method_steps, unlabelled, member_steps, call_steps, items_stored, is_tail, return_steps}
+use Rattle.rules.specs.Arms.{simple_import, import_steps, assign_op_steps, assign_unpack_steps, assign_multi_steps, binary_steps, for_steps, unpacked}
+use Rattle.rules.specs.Arms.{function_steps, stream_steps, target_steps, before_steps, after_steps}
 use Rattle.rules.specs.Kinds.{Kind, kinds, steps_of, steps}
 use Rattle.rules.proofs.Check.{Inside, within, chk, ok}
 use Rattle.rules.proofs.EachKind.{EachKind, no_more, ◌also◌}

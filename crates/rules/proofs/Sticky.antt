@@ -8,10 +8,12 @@ use Rattle.tables.specs.Forest.{Forest, none, tree, own_tree}
 use Rattle.tables.proofs.ForestLaws.{Each, each, each_at}
 use Rattle.pool.specs.Names.{Access, local, global, upvalue, missing}
 use Rattle.rules.specs.Marker.{Way, Mark}
-use Rattle.rules.specs.Step.{Role, pass, keep, Use, Step, push_op, push_const, get_label, place, jump, jump_back, visit, begin_loop, end_loop, exit, check_return, access, refuse, inner}
+use Rattle.rules.specs.Step.{Role, pass, keep, Use, Step, push_op, push_const, get_label, place, jump, jump_back, visit, begin_loop, end_loop, exit, check_return}
+use Rattle.rules.specs.Step.{access, refuse, inner}
 use Rattle.rules.specs.Arms.{stream_steps}
 use Rattle.rules.specs.Kinds.{steps}
-use Rattle.rules.specs.Run.{Lookup, Loop, loop, State, st, flow, labels, loops, emit, bump, halt, begin, finish, way_out, outward, barred, sought, kept, nested, Mode, idle, exec, act, named, Visit, absent, child_visit, stream, visit_alg, visits_of, spot_at, number_of}
+use Rattle.rules.specs.Run.{Lookup, Loop, loop, State, st, flow, labels, loops, emit, bump, halt, begin, finish, way_out, outward, barred, sought, kept, nested}
+use Rattle.rules.specs.Run.{Mode, idle, exec, act, named, Visit, absent, child_visit, stream, visit_alg, visits_of, spot_at, number_of}
 use Rattle.rules.specs.declared.Flow.{Flow}
 use Rattle.rules.specs.declared.Flow.TheVariants.{Go, Cut, Refused}
 

@@ -283,7 +283,8 @@ module _ (e : Lent) (c : Walk) (r : ℕ) where
       go false g =
           doing_still e c r after env B g
           ∙ sym (
-          ap (λ (X : State). emit (mark r (Label (labels A))) (bodied e c r (labels (bump A)) (labels A) h at (emit (mark r (To Jump (labels A))) X))) (no_emit (mark r (Do Call n)) B g)
+          ap (λ (X : State). emit (mark r (Label (labels A))) (bodied e c r (labels (bump A)) (labels A) h at (emit (mark r (To Jump (labels A))) X)))
+          (no_emit (mark r (Do Call n)) B g)
           ∙ ap (λ (X : State). emit (mark r (Label (labels A))) (bodied e c r (labels (bump A)) (labels A) h at X)) (no_emit (mark r (To Jump (labels A))) B g)
           ∙ ap (emit (mark r (Label (labels A)))) (bodied_still e c r (labels (bump A)) (labels A) h at B g)
           ∙ no_emit (mark r (Label (labels A))) B g

@@ -148,10 +148,6 @@ use mathlib.Core.Bool.{not}
 use Rattle.opcode.specs.declared.operator.BinOp.TheVariants as op
 use Rattle.visit.proofs.+visitors.Goals as goal
 
-pub all-loop-left-init : goal.all-loop-left-init
-all-loop-left-init t c =
-    all_start (lent c.args.recs.now c.args.notes.now) c.args.item c.args.n _ _ _
-
 pub all-returns-then-at-eq0 : goal.all-returns-then-at-eq0
 all-returns-then-at-eq0 t c =
     all_none (lent c.args.recs.now c.args.notes.now) c.args.item c.args.n c.loop-left.invariant c.if-at-eq0.true
@@ -162,14 +158,6 @@ all-expr-requires t c = (
       (c.loop-left.invariant.none e)),
   tt,
 )
-
-pub all-overflow_sub-left : goal.all-overflow_sub-left
-all-overflow_sub-left t c =
-    let g = c.loop-left-test.true in search rules
-
-pub all-loop-left-smaller : goal.all-loop-left-smaller
-all-loop-left-smaller t c =
-    omega (arith, c.loop-left-test.true)
 
 pub all-loop-left-preserved : goal.all-loop-left-preserved
 all-loop-left-preserved t c =
@@ -202,58 +190,6 @@ and-returns t c =
           let h4 = visited z Expr (next_of c.args.recs.now c.next-right.ensures c.first-left.ensures) c.expr-2.ensures h3 in
           placed c.args.r _ refl l c.push_label.ensures h4;
     }
-
-pub arm-cond-requires : goal.arm-cond-requires
-arm-cond-requires t c =
-    (falls_rank2 (size c.args.recs.now) c.args.r 8 11 t c.decreases (lit< tt), tt)
-
-pub arm-cases-requires : goal.arm-cases-requires
-arm-cases-requires t c =
-    (falls_rank2 (size c.args.recs.now) c.args.r 8 11 t c.decreases (lit< tt), tt)
-
-pub arm-repeat-requires : goal.arm-repeat-requires
-arm-repeat-requires t c =
-    (falls_rank2 (size c.args.recs.now) c.args.r 8 11 t c.decreases (lit< tt), tt)
-
-pub arm-whilst-requires : goal.arm-whilst-requires
-arm-whilst-requires t c =
-    (falls_rank2 (size c.args.recs.now) c.args.r 8 11 t c.decreases (lit< tt), tt)
-
-pub arm-each-requires : goal.arm-each-requires
-arm-each-requires t c =
-    (falls_rank2 (size c.args.recs.now) c.args.r 8 11 t c.decreases (lit< tt), tt)
-
-pub arm-ret-requires : goal.arm-ret-requires
-arm-ret-requires t c =
-    (falls_rank2 (size c.args.recs.now) c.args.r 8 11 t c.decreases (lit< tt), tt)
-
-pub arm-import-requires : goal.arm-import-requires
-arm-import-requires t c =
-    (falls_rank2 (size c.args.recs.now) c.args.r 8 11 t c.decreases (lit< tt), tt)
-
-pub arm-glo-requires : goal.arm-glo-requires
-arm-glo-requires t c =
-    (falls_rank2 (size c.args.recs.now) c.args.r 8 11 t c.decreases (lit< tt), tt)
-
-pub arm-assign-requires : goal.arm-assign-requires
-arm-assign-requires t c =
-    (falls_rank2 (size c.args.recs.now) c.args.r 8 11 t c.decreases (lit< tt), tt)
-
-pub arm-update-requires : goal.arm-update-requires
-arm-update-requires t c =
-    (falls_rank2 (size c.args.recs.now) c.args.r 8 11 t c.decreases (lit< tt), tt)
-
-pub arm-unpack-requires : goal.arm-unpack-requires
-arm-unpack-requires t c =
-    (falls_rank2 (size c.args.recs.now) c.args.r 8 11 t c.decreases (lit< tt), tt)
-
-pub arm-multi-requires : goal.arm-multi-requires
-arm-multi-requires t c =
-    (falls_rank2 (size c.args.recs.now) c.args.r 9 11 t c.decreases (lit< tt), tt)
-
-pub arm-rest-requires : goal.arm-rest-requires
-arm-rest-requires t c =
-    (falls_rank2 (size c.args.recs.now) c.args.r 10 11 t c.decreases (lit< tt), tt)
 
 pub arm-returns-in-14 : goal.arm-returns-in-14
 arm-returns-in-14 t c =
@@ -369,14 +305,6 @@ neither_short op.Le a b = refl
 neither_short op.Gt a b = refl
 neither_short op.Ge a b = refl
 neither_short op.Is a b = refl
-
-pub binary-and-requires : goal.binary-and-requires
-binary-and-requires t c =
-    (falls_rank2 (size c.args.recs.now) c.args.r 6 8 t c.decreases (lit< tt), tt)
-
-pub binary-or-requires : goal.binary-or-requires
-binary-or-requires t c =
-    (falls_rank2 (size c.args.recs.now) c.args.r 6 8 t c.decreases (lit< tt), tt)
 
 pub binary-expr-requires : goal.binary-expr-requires
 binary-expr-requires t c =
@@ -1116,10 +1044,6 @@ inner-returns-then-not-is_numbered t c =
     not-false _ (ap not c.if-not-nests.false)) (sym c.goes_on.ensures ∙ not-false _ (ap not c.if-not-goes_on.false)) c.is_numbered.ensures (not-true _ (ap not
     c.if-not-is_numbered.true)) c.refuse.ensures)
 
-pub inner-body-requires : goal.inner-body-requires
-inner-body-requires t c =
-    (falls_rank2 (size c.args.recs.now) c.args.r 5 6 t c.decreases (lit< tt), tt)
-
 pub inner-returns : goal.inner-returns
 inner-returns t c =
     resim (λ v z A. stream_inside (lent c.args.recs.now c.args.notes.now) v c.args.r A)
@@ -1150,10 +1074,6 @@ pub member-expr-requires : goal.member-expr-requires
 member-expr-requires t c =
     (falls_to (size c.args.recs.now) c.args.r _ 12 7 t c.decreases (lit< tt) (child1 c.args.recs.now c.first-table.ensures), tt)
 
-pub member-prop-requires : goal.member-prop-requires
-member-prop-requires t c =
-    (falls_rank2 (size c.args.recs.now) c.args.r 6 8 t c.decreases (lit< tt), tt)
-
 pub member-returns-then-is_unlabelled : goal.member-returns-then-is_unlabelled
 member-returns-then-is_unlabelled t c =
     record {
@@ -1164,10 +1084,6 @@ member-returns-then-is_unlabelled t c =
           let g = got c.args.r (word c.args.recs.now c.args.r 1 % 8) c.property_of-property.ensures c.push_get.ensures p in
           given (member_bare (lent c.args.recs.now c.args.notes.now) v c.args.r (t ∙ c.if-is_unlabelled.true) A) (g);
     }
-
-pub member-prop-requires-2 : goal.member-prop-requires-2
-member-prop-requires-2 t c =
-    (falls_rank2 (size c.args.recs.now) c.args.r 6 8 t c.decreases (lit< tt), tt)
 
 pub member-returns : goal.member-returns
 member-returns t c =
@@ -1200,11 +1116,6 @@ multi-all-requires t c = (
   tt,
 )
 
-pub multi-loop-i-init : goal.multi-loop-i-init
-multi-loop-i-init t c =
-    downing_start (lent c.args.recs.now c.args.notes.now) c.args.r _ _ _ _ (let q = c.if-n-width.false ∙ (c.width.ensures ∙ ap (λ (x :
-    ℕ). width (own_tree (forest c.args.recs.now x))) c.first-left.ensures) in omega (arith, q)) c.first-left.ensures c.less.ensures c.nth-at.ensures
-
 pub multi-returns-then-at-r : goal.multi-returns-then-at-r
 multi-returns-then-at-r t c =
     record {
@@ -1218,14 +1129,6 @@ multi-returns-then-at-r t c =
 pub multi-target-requires : goal.multi-target-requires
 multi-target-requires t c =
     (falls_past (size c.args.recs.now) c.args.r _ t c.decreases c.if-at-r.false, tt)
-
-pub multi-overflow_sub-i : goal.multi-overflow_sub-i
-multi-overflow_sub-i t c =
-    let g = c.loop-i-test.true in search rules
-
-pub multi-loop-i-smaller : goal.multi-loop-i-smaller
-multi-loop-i-smaller t c =
-    omega (arith, c.loop-i-test.true)
 
 pub multi-loop-i-preserved : goal.multi-loop-i-preserved
 multi-loop-i-preserved t c =
@@ -1323,14 +1226,6 @@ repeat-returns t c =
           let i4 = nulled c.args.r c.push_null.ensures i3 in
           finished c.end_loop.ensures i4;
     }
-
-pub rest-inner-requires : goal.rest-inner-requires
-rest-inner-requires t c =
-    (falls_rank2 (size c.args.recs.now) c.args.r 6 10 t c.decreases (lit< tt), tt)
-
-pub rest-catch-requires : goal.rest-catch-requires
-rest-catch-requires t c =
-    (falls_rank2 (size c.args.recs.now) c.args.r 8 10 t c.decreases (lit< tt), tt)
 
 pub rest-expr-requires : goal.rest-expr-requires
 rest-expr-requires t c = (
@@ -1526,14 +1421,6 @@ pub unpack-target-requires : goal.unpack-target-requires
 unpack-target-requires t c =
     (falls_to (size c.args.recs.now) c.args.r _ 8 7 t c.decreases (lit< tt) c.loop-i.invariant.link, tt)
 
-pub unpack-overflow_add-i : goal.unpack-overflow_add-i
-unpack-overflow_add-i t c =
-    let g = c.loop-i-test.true in let b = c.p-n.type_inv in search rules
-
-pub unpack-loop-i-smaller : goal.unpack-loop-i-smaller
-unpack-loop-i-smaller t c =
-    omega (arith, c.loop-i-test.true)
-
 pub unpack-loop-i-preserved : goal.unpack-loop-i-preserved
 unpack-loop-i-preserved t c =
     unpacking_again (lent c.args.recs.now c.args.notes.now) c.args.r _ c.loop-i.invariant c.loop-i-test.true c.next-at.ensures
@@ -1555,10 +1442,6 @@ unpack-returns t c =
           in
           given (unpack_run (lent c.args.recs.now c.args.notes.now) v c.args.r c.p-n.ensures A) (nulled c.args.r c.push_null.ensures h3);
     }
-
-pub update-short-requires : goal.update-short-requires
-update-short-requires t c =
-    (falls_rank2 (size c.args.recs.now) c.args.r 6 8 t c.decreases (lit< tt), tt)
 
 pub update-returns-then-is_short_assign : goal.update-returns-then-is_short_assign
 update-returns-then-is_short_assign t c =
