@@ -3,21 +3,18 @@ use mathlib.Core.Path.{◌≡◌, refl, sym, ap, subst, subst⁻¹, ◌∙◌}
 use mathlib.Core.Bool.{Bool, true, false}
 use mathlib.Core.List.{List, [], ◌∷◌}
 use Prim.Native.Nat.{ℕ, ◌*◌, ◌≤◌, ◌<◌}
-use native.Mathlib.Omega.{arith}
 use lib.ListN.{length}
 use lib.Dec.{eqb}
-use Rattle.tables.specs.declared.refusal.Broken.{Broken}
-use Rattle.tables.specs.declared.refusal.Broken.TheVariants.{Nowhere, At}
+use Rattle.std.specs.Prelude.{Option, None, Some, Ok, Err}
 use Rattle.tables.specs.declared.refusal.Refusal.{Refusal}
 use Rattle.tables.specs.declared.refusal.Refusal.TheVariants.{Table, Space}
-use Rattle.tables.specs.declared.refusal.Checked.{Checked}
-use Rattle.tables.specs.declared.refusal.Checked.TheVariants.{Accepted, Refused as Broke}
+use Rattle.tables.specs.Refusal.{Checked}
 use Rattle.tables.specs.Record.{Words, words, size}
 use Rattle.tables.specs.Forest.{children}
 use Rattle.tables.specs.Semantic.{pairs}
 use Rattle.tables.specs.Lent.{lent_broken}
 use Rattle.tables.specs.Check.{refusing, rows_of}
-use Rattle.tables.proofs.CheckLaws.{skip, halt}
+use Rattle.tables.proofs.CheckLaws.{skip, halt, row_kept, rest_kept}
 use Rattle.tables.proofs.LentLaws.{fit}
 use Rattle.pool.specs.Names.{Semantic, semantic}
 use Rattle.rules.specs.declared.Flow.{Flow}
@@ -34,20 +31,6 @@ use Rattle.codegen.specs.Call.{checked_of, past, answering, ran_of, answer_of, w
 use Rattle.codegen.proofs.DemandLaws.{on_words}
 use Rattle.codegen.proofs.ReadyLaws.{tables_kept}
 
-never : (why : Refusal) → Broke why ≡ Accepted → ⊥
-never why e = let z : ◌≡◌ {A = ℕ} 0 1 = cc in omega arith
-
--- accepted: the row is well, and so are the next ones
-row_kept : (why : ℕ → Refusal) (b : Broken) (r : Checked) → refusing why b r ≡ Accepted → b ≡ Nowhere
-unfolding refusing
-row_kept why Nowhere r e = refl
-row_kept why (At i) r e = absurd (never (why i) e)
-
-rest_kept : (why : ℕ → Refusal) (b : Broken) (r : Checked) → refusing why b r ≡ Accepted → r ≡ Accepted
-unfolding refusing
-rest_kept why Nowhere r e = e
-rest_kept why (At i) r e = absurd (never (why i) e)
-
 module _ (strings bytes symbols references functions members records : List ℕ) (markers constants names errors lines : ℕ) where
   abbrev checks : Checked
   checks = checked_of strings bytes symbols references functions members records markers constants names errors lines
@@ -55,16 +38,16 @@ module _ (strings bytes symbols references functions members records : List ℕ)
   abbrev rows : Checked
   rows = rows_of strings bytes symbols references functions members records
 
-  abbrev space : Broken
+  abbrev space : Option ℕ
   space = space_broken (size records) (length members) (pairs functions) markers constants names errors lines
 
   -- row 1
-  pub table_checked : (b : Broken) (i : ℕ) → b ≡ lent_broken strings bytes symbols references functions members records → b ≡ At i → Broke (Table i) ≡ checks
+  pub table_checked : (b : Option ℕ) (i : ℕ) → b ≡ lent_broken strings bytes symbols references functions members records → b ≡ Some i → Err (Table i) ≡ checks
   unfolding checked_of
   table_checked b i e q = halt Table b _ (refusing Space space rows) i e q
 
-  module _ (b : Broken) (e : b ≡ lent_broken strings bytes symbols references functions members records) (q : b ≡ Nowhere) (n : ℕ) (g : n ≡ size records)
-      (d : Broken) (h : d ≡ space_broken n (length members) (pairs functions) markers constants names errors lines) where
+  module _ (b : Option ℕ) (e : b ≡ lent_broken strings bytes symbols references functions members records) (q : b ≡ None) (n : ℕ) (g : n ≡ size records)
+      (d : Option ℕ) (h : d ≡ space_broken n (length members) (pairs functions) markers constants names errors lines) where
     said : d ≡ space
     said = h ∙ ap (λ (k : ℕ). space_broken k (length members) (pairs functions) markers constants names errors lines) g
 
@@ -73,29 +56,29 @@ module _ (strings bytes symbols references functions members records : List ℕ)
     well = skip Table b _ (refusing Space space rows) e q
 
     -- row 2
-    pub space_checked : (i : ℕ) → d ≡ At i → Broke (Space i) ≡ checks
+    pub space_checked : (i : ℕ) → d ≡ Some i → Err (Space i) ≡ checks
     space_checked i r = halt Space d _ rows i said r ∙ well
 
     -- rows 3 to 9
-    pub rows_checked : d ≡ Nowhere → (x : Checked) → (size records ≤ 4096 → 0 < size records → x ≡ rows_of strings bytes symbols references functions members records)
+    pub rows_checked : d ≡ None → (x : Checked) → (size records ≤ 4096 → 0 < size records → x ≡ rows_of strings bytes symbols references functions members records)
         → x ≡ checks
     rows_checked r x w =
         let f = fit strings bytes symbols references functions members records (sym e ∙ q) in
         w f.records_limit f.records_some ∙ skip Space d _ rows said r ∙ well
 
   -- the answer
-  pub refused_answer : (x : Checked) (why : Refusal) → x ≡ checks → x ≡ Broke why
+  pub refused_answer : (x : Checked) (why : Refusal) → x ≡ checks → x ≡ Err why
       → Refused why ≡ answer_of strings bytes symbols references functions members records markers constants names errors lines
   unfolding answer_of
   refused_answer x why e k = ap (λ (z : Checked). past z (ran_of (semantic symbols references functions members) records)) (sym k ∙ e)
 
-  module _ (x : Checked) (e : x ≡ checks) (k : x ≡ Accepted) where
+  module _ (x : Checked) (e : x ≡ checks) (k : x ≡ Ok tt) where
     pub run_answer : ran_of (semantic symbols references functions members) records
         ≡ answer_of strings bytes symbols references functions members records markers constants names errors lines
     unfolding answer_of
     run_answer = ap (λ (z : Checked). past z (ran_of (semantic symbols references functions members) records)) (sym k ∙ e)
 
-    pub checked_roomy : space ≡ Nowhere
+    pub checked_roomy : space ≡ None
     unfolding checked_of
     checked_roomy = row_kept Space space rows (rest_kept Table _ _ (sym e ∙ k))
 

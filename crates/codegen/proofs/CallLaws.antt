@@ -14,6 +14,7 @@ use borrow.Author.Tests.{ltb-true, ltb-false}
 use Rattle.tables.specs.Record.{size}
 use Rattle.tables.specs.declared.refusal.RunRule.{RunRule}
 use Rattle.tables.specs.declared.refusal.Refusal.TheVariants.{Run}
+use Rattle.pool.specs.declared.spans.Span.{Span}
 use Rattle.pool.specs.Names.{Semantic, semantic}
 use Rattle.pool.specs.NameWords.{over, fits}
 use Rattle.pool.specs.Resolve.{Blank, Resolved, Resolves}
@@ -23,8 +24,8 @@ use Rattle.rules.specs.declared.Flow.TheVariants.{Go, Cut, Refused as Halted}
 use Rattle.rules.specs.Run.{Side, State, flow, side, look}
 use Rattle.rules.specs.Out.{Out, ended, outcome}
 use Rattle.rules.proofs.Alone.{Runs}
-use Rattle.emit.specs.Words.{limit, ERRORS, FUNCTIONS, at, flow_in}
-use Rattle.emit.specs.Does.{noted_look}
+use Rattle.context.specs.Words.{limit}
+use Rattle.codegen.specs.declared.walks.Judged.{Judged}
 use Rattle.codegen.specs.declared.call.Answer.{Answer}
 use Rattle.codegen.specs.declared.call.Answer.TheVariants.{Listing, Refused}
 use Rattle.codegen.specs.Walks.{ran, noted_run, Walked}
@@ -33,7 +34,7 @@ use Rattle.codegen.specs.Call.{answering, written_of, lists, Written, Answered, 
 use Rattle.codegen.proofs.NoteLaws.{noted_same}
 use Rattle.codegen.proofs.LayLaws.{note_over}
 use Rattle.codegen.proofs.SpaceLaws.{space_kept}
-use Rattle.codegen.proofs.ReadyLaws.{tables_kept, few_errors, run_bounds, space_enough, refusal_exact}
+use Rattle.codegen.proofs.ReadyLaws.{tables_kept, few_errors, run_bounds, space_enough}
 use Rattle.codegen.proofs.PreparedLaws.{Named, named_of}
 use Rattle.codegen.proofs.PrefixLaws.{whole, some_met, count_inside, count_fits, names_copied, lines_same}
 
@@ -49,11 +50,11 @@ few_met ns recs ready = go (ltb 256 (met_of (noted_run ns recs))) refl
         absurd (omega (arith, ready.numbered.below (stream_of (noted_run ns recs) 256).at o.inside o.function, o.named))
     go false e = ltb-false 256 (met_of (noted_run ns recs)) e
 
-pub met_exact : (ns recs frame : List ℕ) → Ready ns recs → Walked (noted_run ns recs) frame → at frame FUNCTIONS ≡ met_of (noted_run ns recs)
-met_exact ns recs frame ready w = let f = few_met ns recs ready in w.met ∙ omega arith
+pub met_exact : (ns recs : List ℕ) (j : Judged) → Ready ns recs → Walked (noted_run ns recs) j → j.functions ≡ met_of (noted_run ns recs)
+met_exact ns recs j ready w = let f = few_met ns recs ready in w.met ∙ omega arith
 
-pub errors_exact : (A : State) (frame : List ℕ) → length (side A).errors < limit → Walked A frame → at frame ERRORS ≡ length (side A).errors
-errors_exact A frame f w = w.errors ∙ omega arith
+pub errors_exact : (A : State) (j : Judged) → length (side A).errors < limit → Walked A j → j.errors ≡ length (side A).errors
+errors_exact A j f w = w.errors ∙ omega arith
 
 -- a listing's numbers
 pub same_listing : (n m c e s k : ℕ) → n ≡ m → c ≡ e → s ≡ k → Listing n c (s * 32) ≡ Listing m e (k * 32)
@@ -100,7 +101,7 @@ module _ (symbols references functions members recs : List ℕ) (sound : Sound s
   t = semantic symbols references functions members
 
   -- the names stand where they should, and the notes are those of the tables
-  module _ (ws sp ns ws' sp' ns' : List ℕ) (wide : length ws ≡ 3072) (long : length sp ≡ 1024) (blank : Blank ns) (h : Resolves t recs ws sp ns ws' sp' ns') where
+  module _ (ws : List ℕ) (sp : List Span) (ns ws' : List ℕ) (sp' : List Span) (ns' : List ℕ) (wide : length ws ≡ 3072) (long : length sp ≡ 256) (blank : Blank ns) (h : Resolves t recs ws sp ns ws' sp' ns') where
     room : fits t (length ws) (length sp) ≡ true
     room =
         kept_fits sound.strings sound.bytes symbols references functions members recs (tables_kept symbols references functions members recs sound) (length ws)
@@ -114,9 +115,9 @@ module _ (symbols references functions members recs : List ℕ) (sound : Sound s
     pub names_made : Named t ws' sp'
     names_made = named_of t (whole symbols references functions members recs sound) ws sp ws' sp' room h.entries h.spans
 
-  module _ (ns : List ℕ) (noted : Resolved t recs ns) (frame : List ℕ) (w : Walked (noted_run ns recs) frame) (f : Flow) (e : f ≡ flow_in (at frame)) where
+  module _ (ns : List ℕ) (noted : Resolved t recs ns) (j : Judged) (w : Walked (noted_run ns recs) j) (f : Flow) (e : f ≡ j.flow) where
     pub flow_noted : f ≡ flow (noted_run ns recs)
-    flow_noted = e ∙ w.flow ∙ refusal_exact symbols references functions members recs sound (noted_look ns)
+    flow_noted = e ∙ w.flow
 
     pub flow_ran : f ≡ flow (ran t recs)
     flow_ran = flow_noted ∙ ap flow (noted_same t ns recs noted)
@@ -133,7 +134,7 @@ module _ (symbols references functions members recs : List ℕ) (sound : Sound s
     pub unrefused_ran : ((rule : RunRule) (r : ℕ) → f ≡ Halted rule r → ⊥) → Runs (flow (ran t recs))
     unrefused_ran h = subst Runs flow_ran (unrefused_runs f h)
 
-  module _ (entries spans : List ℕ) (named : Named t entries spans) (markers constants names errors lines : List ℕ)
+  module _ (entries : List ℕ) (spans : List Span) (named : Named t entries spans) (markers constants names errors lines : List ℕ)
       (roomy : Roomy t recs (lists markers constants names errors lines)) where
     listable_ran : Listable (ran t recs) entries spans (lists markers constants names errors lines)
     listable_ran = record {

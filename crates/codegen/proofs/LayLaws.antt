@@ -1,48 +1,31 @@
 -- Markers, constants and errors as the sinks lay them are their words over the lent ones, where these have room. Assumes nothing.
 use mathlib.Core.Path.{◌≡◌, refl, sym, ap, ap₂, ◌∙◌}
-use mathlib.Core.Bool.{Bool, true, cond}
+use mathlib.Core.Bool.{true}
 use mathlib.Core.List.{List, [], ◌∷◌, ◌++◌, append_assoc, append-nil}
 use Prim.Native.Nat.{ℕ, suc, ◌+◌, ◌*◌, ◌≤◌, ◌<◌}
 use native.Mathlib.Omega.{arith}
-use lib.ListN.{length, set, length-append}
-use lib.Dec.{ltb}
-use borrow.Author.Tests.{lt-ltb}
+use lib.ListN.{length, length-append}
 use Rattle.pool.specs.Value.{Const, seen, intern, kind_word, low_word, high_word}
-use Rattle.pool.specs.Consts.{room, put3, laid}
+use Rattle.pool.specs.Entries.{put_entry}
+use Rattle.pool.specs.Consts.{put3, laid}
+use Rattle.pool.proofs.PutLaws.{put_room}
 use Rattle.pool.specs.NameWords.{over}
 use Rattle.pool.proofs.ConstsLaws.{find_seen, find_later, seen_later, seen_intern}
 use Rattle.rules.specs.Marker.{Op, Label, To, Back, Leave, Load, Do, Mark, mark}
 use Rattle.rules.specs.Run.{Error, error}
 use Rattle.rules.specs.Out.{consts, brought, code_word, operand_word, marker_words, const_words, error_words}
-use Rattle.emit.specs.Words.{limit, cap}
-use Rattle.emit.specs.Sinks.{put2}
-use Rattle.emit.specs.Rep.{lay, note}
-use Rattle.emit.proofs.ConstLaws.{table_short}
+use Rattle.context.specs.Words.{limit, cap}
+use Rattle.context.specs.Sinks.{put2}
+use Rattle.context.specs.Rep.{lay, note}
+use Rattle.context.proofs.ConstLaws.{table_short}
 use Rattle.codegen.specs.Listing.{Small, AllSmall}
 use Rattle.codegen.proofs.OverLaws.{over_length, over_sets}
 
--- three words put behind n entries of three
-put3_over : (xs ws : List ℕ) (n k a b : ℕ) → length xs ≡ 3 * n → 3 * n + 3 ≤ length ws → put3 (over xs ws) n k a b ≡ over (xs ++ (k ∷ a ∷ b ∷ [])) ws
-unfolding put3
-put3_over xs ws n k a b e h =
+-- an entry put behind n others
+put_over : (xs ws : List ℕ) (n : ℕ) (vs : List ℕ) → length xs ≡ n * length vs → n * length vs + length vs ≤ length ws → put_entry (over xs ws) n vs ≡ over (xs ++ vs) ws
+put_over xs ws n vs e h =
     let l = over_length xs ws (omega arith) in
-    let r : room (over xs ws) n ≡ true = lt-ltb (n * 3 + 2) (length (over xs ws)) (omega arith) in
-    let p : n * 3 + 1 ≡ suc (n * 3) = omega arith in
-    let q : n * 3 + 2 ≡ suc (suc (n * 3)) = omega arith in
-    ap (λ (c : Bool). cond c (set (set (set (over xs ws) (n * 3) k) (n * 3 + 1) a) (n * 3 + 2) b) (over xs ws)) r
-    ∙ ap₂ (λ (i j : ℕ). set (set (set (over xs ws) (n * 3) k) i a) j b) p q
-    ∙ over_sets xs (k ∷ a ∷ b ∷ []) ws (n * 3) (omega arith) (omega arith)
-
--- and two behind n entries of two
-put2_over : (xs ws : List ℕ) (n c x : ℕ) → length xs ≡ 2 * n → 2 * n + 2 ≤ length ws → put2 (over xs ws) n c x ≡ over (xs ++ (c ∷ x ∷ [])) ws
-unfolding put2
-put2_over xs ws n c x e h =
-    let l = over_length xs ws (omega arith) in
-    let r : ltb (n * 2 + 1) (length (over xs ws)) ≡ true = lt-ltb (n * 2 + 1) (length (over xs ws)) (omega arith) in
-    let p : n * 2 + 1 ≡ suc (n * 2) = omega arith in
-    ap (λ (d : Bool). cond d (set (set (over xs ws) (n * 2) c) (n * 2 + 1) x) (over xs ws)) r
-    ∙ ap (λ (i : ℕ). set (set (over xs ws) (n * 2) c) i x) p
-    ∙ over_sets xs (c ∷ x ∷ []) ws (n * 2) (omega arith) (omega arith)
+    put_room (over xs ws) n vs (omega arith) ∙ over_sets xs vs ws (n * length vs) e h
 
 -- ---- errors
 
@@ -64,7 +47,7 @@ unfolding note error_words
 note_over ws [] h = refl
 note_over ws (error k a b ∷ es) h =
     ap (λ (l : List ℕ). put3 l (length es) k a b) (note_over ws es (omega arith))
-    ∙ put3_over (error_words es []) ws (length es) k a b (errors_length es) (omega arith)
+    ∙ put_over (error_words es []) ws (length es) (k ∷ a ∷ b ∷ []) (omega (arith, errors_length es)) (omega arith)
     ∙ ap (λ (l : List ℕ). over l ws) (sym (errors_before es (k ∷ a ∷ b ∷ [])))
 
 -- ---- constants
@@ -77,7 +60,7 @@ laid_from xs ws n (c ∷ cs) e h =
     let k = kind_word c.value in
     let l = low_word c in
     let g = high_word c.value in
-    ap (λ (z : List ℕ). laid z (suc n) cs) (put3_over xs ws n k l g e (omega arith))
+    ap (λ (z : List ℕ). laid z (suc n) cs) (put_over xs ws n (k ∷ l ∷ g ∷ []) (omega arith) (omega arith))
     ∙ laid_from (xs ++ (k ∷ l ∷ g ∷ [])) ws (suc n) cs (length-append xs (k ∷ l ∷ g ∷ []) ∙ omega arith) (omega arith)
     ∙ ap (λ (z : List ℕ). over z ws) (append_assoc xs (k ∷ l ∷ g ∷ []) (const_words cs))
 
@@ -173,7 +156,7 @@ lay_over ws (mark r x ∷ ms) (s, ss) g h =
     let c = code_word x in
     let o = operand_word cs x in
     ap₂ (λ (l : List ℕ) (y : ℕ). put2 l (length ms) c y) (lay_over ws ms ss (omega arith) (omega arith)) (operand_fits r x ms s (omega arith))
-    ∙ put2_over (marker_words (consts ms) ms []) ws (length ms) c o (markers_length (consts ms) ms) (omega arith)
+    ∙ put_over (marker_words (consts ms) ms []) ws (length ms) (c ∷ o ∷ []) (omega (arith, markers_length (consts ms) ms)) (omega arith)
     ∙ ap (λ (l : List ℕ). over (l ++ (c ∷ o ∷ [])) ws) (sym (before_stay r x ms []))
     ∙ ap (λ (l : List ℕ). over l ws) (sym (markers_before cs ms (c ∷ o ∷ [])))
 

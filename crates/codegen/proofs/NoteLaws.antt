@@ -10,7 +10,7 @@ use Rattle.pool.specs.Resolve.{Resolved}
 use Rattle.rules.specs.Step.{Use, Get, Set}
 use Rattle.rules.specs.Run.{here, look, full, nothing, run}
 use Rattle.rules.proofs.Lookups.{inside, Alike, Nowhere, function_alike}
-use Rattle.emit.specs.Does.{noted_look}
+use Rattle.context.specs.Does.{noted_look}
 use Rattle.codegen.specs.Walks.{stack_code, ran, noted_run}
 
 module _ (t : Semantic) (ns : List ℕ) where

@@ -53,8 +53,8 @@ use Rattle.rules.proofs.StepsOk.{function_only}
 use Rattle.rules.proofs.Tame.{no_name, no_function, held_by, tame, tally, Modest}
 use Rattle.rules.proofs.Pure.{steps_tame, stream_tame}
 use Rattle.rules.proofs.Invariant.{Everywhere}
-use Rattle.emit.specs.Words.{limit}
-use Rattle.emit.specs.Does.{access_noted, noted_look}
+use Rattle.context.specs.Words.{limit}
+use Rattle.context.specs.Does.{access_noted, noted_look}
 use Rattle.codegen.specs.Listing.{AllSmall}
 
 -- an operand, where n labels were taken

@@ -1,11 +1,15 @@
 -- Words laid over the front of others: some after others, and words stored behind those laid before. Assumes nothing.
 use mathlib.Core.Path.{◌≡◌, refl, sym, ap, ◌∙◌}
-use mathlib.Core.List.{List, [], ◌∷◌, ◌++◌, append_assoc}
-use Prim.Native.Nat.{ℕ, suc, ◌+◌, ◌≤◌, ◌<◌}
+use mathlib.Core.List.{List, ◌++◌, append_assoc}
+use Prim.Native.Nat.{ℕ, ◌+◌, ◌*◌, ◌≤◌}
 use native.Mathlib.Omega.{arith}
-use lib.ListN.{length, get_or, set, take, drop, length-append, length-drop}
-use lib.Seq.{sets, sets-eq, length-take-le, take-suc, take_at, drop_at, drop-append-add, drop-drop}
+use lib.ListN.{length, take, drop, length-append, length-drop}
+use lib.Seq.{sets, sets-eq, take_at, drop_at, drop-append-add, drop-drop}
+use borrow.Rule.Slice.PartMut.{put_mid}
+use Rattle.pool.specs.Entries.{put_entry}
 use Rattle.pool.specs.NameWords.{over}
+use Rattle.pool.proofs.PutLaws.{put_room}
+use Rattle.codegen.specs.Listing.{over_at}
 
 pub over_length : (xs ws : List ℕ) → length xs ≤ length ws → length (over xs ws) ≡ length ws
 over_length xs ws h = length-append xs (drop (length xs) ws) ∙ omega (arith, length-drop (length xs) ws)
@@ -38,10 +42,13 @@ over_sets xs vs ws i e h =
     (ap (λ (n : ℕ). drop (n + length vs) (over xs ws)) (sym e) ∙ drop-append-add xs (drop (length xs) ws) (length vs) ∙ drop-drop (length vs) (length xs) ws
     ∙ ap (λ (n : ℕ). drop n ws) (sym (length-append xs vs)))
 
--- one word more of a copy
-pub copied_more : (xs ws ys : List ℕ) (i : ℕ) → ys ≡ over (take i xs) ws → i < length xs → i < length ws → set ys i (get_or xs i 0) ≡ over (take (i + 1) xs) ws
-copied_more xs ws ys i e h g =
-    let l : length (take i xs) ≡ i = length-take-le i xs (omega arith) in
-    let z : suc i ≡ i + 1 = omega arith in
-    ap (λ (zs : List ℕ). set zs i (get_or xs i 0)) e ∙ over_sets (take i xs) (get_or xs i 0 ∷ []) ws i l (omega arith)
-    ∙ ap (λ (zs : List ℕ). over zs ws) (sym (take-suc xs i 0 h) ∙ ap (λ (n : ℕ). take n xs) z)
+-- a front that is copied
+pub copied : (xs ws : List ℕ) (k : ℕ) → k ≡ length xs → put_mid 0 k ws xs ≡ over xs ws
+copied xs ws k e = ap (λ (n : ℕ). xs ++ drop n ws) e
+
+-- an entry of a table
+pub put_at : (ws : List ℕ) (n : ℕ) (vs : List ℕ) → n * length vs + length vs ≤ length ws → put_entry ws n vs ≡ over_at (n * length vs) vs ws
+put_at ws n vs h =
+    let i = n * length vs in
+    put_room ws n vs h ∙ sets-eq vs ws i h ∙ append_assoc (take i ws) vs (drop (i + length vs) ws)
+    ∙ ap (λ (l : List ℕ). take i ws ++ (vs ++ l)) (sym (drop-drop (length vs) i ws))

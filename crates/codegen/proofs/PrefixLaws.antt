@@ -72,7 +72,7 @@ module _ (symbols references functions members recs : List ℕ) (sound : Sound s
       let e = k.number_own 0 k.fits.records_some k.root_is_function ∙ k.number_first in
       omega (arith, (run_bounds symbols references functions members recs sound (look t)).some e)
 
-  module _ (entries spans : List ℕ) (p : Named t entries spans) where
+  module _ (entries : List ℕ) (spans : List Span) (p : Named t entries spans) where
     abbrev met : ℕ
     met = met_of (ran t recs)
 

@@ -4,18 +4,19 @@ use mathlib.Core.Bool.{true}
 use mathlib.Core.List.{List, [], ◌∷◌, ◌++◌, append_assoc}
 use Prim.Native.Nat.{ℕ, suc, ◌+◌, ◌*◌, ◌≤◌, ◌<◌}
 use native.Mathlib.Omega.{arith}
-use lib.ListN.{length, get_or, take, drop, take-append-drop, get_or-append}
-use lib.Seq.{take_at, get_or-append-add}
+use lib.ListN.{length, take, drop, take-append-drop}
+use lib.Seq.{take_at}
+use Rattle.std.proofs.lemmas.List.{get_or_at}
+use Rattle.pool.specs.declared.spans.Span.{Span}
 use Rattle.pool.specs.Names.{Semantic, Upvalue, Names, function_count, start_of_share, names, names_upto}
-use Rattle.pool.specs.NameWords.{over, span_of, span_words, span_for, words_of, all_entries, entries_of, spans_from, fits, entries_after, spans_after}
-use Rattle.pool.specs.NameSteps.{Stands}
+use Rattle.pool.specs.NameWords.{over, span_of, no_span, span_for, words_of, all_entries, entries_of, spans_from, fits, entries_after, spans_after}
 use Rattle.pool.proofs.Basics.{on_true}
-use Rattle.pool.proofs.EntryLaws.{words_length, words_append, span_read}
+use Rattle.pool.proofs.EntryLaws.{words_length, words_append}
 use Rattle.pool.proofs.NameUpto.{names_length, spans_length, spans_snoc, entries_start}
 use Rattle.pool.proofs.NamesLaws.{names_take, names_next}
 
 -- the spans count each function's names, and the names of the first n functions stand in front
-pub record Named (t : Semantic) (entries spans : List ℕ) : Type 0 where
+pub record Named (t : Semantic) (entries : List ℕ) (spans : List Span) : Type 0 where
   pub counted : (f : ℕ) → f < function_count t → span_of spans f ≡ span_for (start_of_share t f) (names t f)
   pub front : (n : ℕ) → n ≤ function_count t → take (start_of_share t n * 3) entries ≡ words_of (all_entries (names_upto t n))
 
@@ -24,20 +25,16 @@ unfolding all_entries
 entries_both [] ns = refl
 entries_both (m ∷ ms) ns = ap (λ (l : List Upvalue). entries_of m ++ l) (entries_both ms ns) ∙ sym (append_assoc (entries_of m) (all_entries ms) (all_entries ns))
 
-spans_front : (ms ns : List Names) (s : ℕ) → (rest : List ℕ) × (spans_from s (ms ++ ns) ≡ spans_from s ms ++ rest)
+spans_front : (ms ns : List Names) (s : ℕ) → (rest : List Span) × (spans_from s (ms ++ ns) ≡ spans_from s ms ++ rest)
 unfolding spans_from
 spans_front [] ns s = (spans_from s ns, refl)
 spans_front (m ∷ ms) ns s = go (spans_front ms ns (s + length (entries_of m)))
   where
-    go : (rest : List ℕ) × (spans_from (s + length (entries_of m)) (ms ++ ns) ≡ spans_from (s + length (entries_of m)) ms ++ rest)
-        → (rest : List ℕ) × (spans_from s (m ∷ (ms ++ ns)) ≡ spans_from s (m ∷ ms) ++ rest)
-    go (rest, e) = (rest, ap (λ (l : List ℕ). s ∷ length m.locals ∷ length m.globals ∷ length m.upvalues ∷ l) e)
+    go : (rest : List Span) × (spans_from (s + length (entries_of m)) (ms ++ ns) ≡ spans_from (s + length (entries_of m)) ms ++ rest)
+        → (rest : List Span) × (spans_from s (m ∷ (ms ++ ns)) ≡ spans_from s (m ∷ ms) ++ rest)
+    go (rest, e) = (rest, ap (λ (l : List Span). span_for s m ∷ l) e)
 
-between : (a b c : List ℕ) (i : ℕ) → length a ≡ i → Stands (a ++ (b ++ c)) i b
-between a b c i e k h =
-    ap (λ (n : ℕ). get_or (a ++ (b ++ c)) (n + k) 0) (sym e) ∙ get_or-append-add a (b ++ c) k 0 ∙ get_or-append b c 0 k h
-
-module _ (t : Semantic) (whole : start_of_share t (function_count t) ≡ length t.members) (ws sp entries spans : List ℕ)
+module _ (t : Semantic) (whole : start_of_share t (function_count t) ≡ length t.members) (ws : List ℕ) (sp : List Span) (entries : List ℕ) (spans : List Span)
     (room : fits t (length ws) (length sp) ≡ true) (made : entries ≡ entries_after t ws sp) (spanned : spans ≡ spans_after t ws sp) where
   abbrev all : List Names
   all = names_upto t (function_count t)
@@ -56,28 +53,28 @@ module _ (t : Semantic) (whole : start_of_share t (function_count t) ≡ length 
 
   -- where function f's names start, and how many they are
   counted_of : (f : ℕ) → f < function_count t → span_of spans f ≡ span_for (start_of_share t f) (names t f)
-  counted_of f h = span_read spans f (span_for (start_of_share t f) (names t f)) (at (spans_front (names_upto t (suc f)) (drop (suc f) all) 0))
+  counted_of f h = at (spans_front (names_upto t (suc f)) (drop (suc f) all) 0)
     where
-      a : List ℕ
+      a : List Span
       a = spans_from 0 (names_upto t f)
 
-      b : List ℕ
-      b = span_words (span_for (start_of_share t f) (names t f))
+      b : Span
+      b = span_for (start_of_share t f) (names t f)
 
-      last : spans_from 0 (names_upto t (suc f)) ≡ a ++ b
+      last : spans_from 0 (names_upto t (suc f)) ≡ a ++ (b ∷ [])
       last =
           let z : 0 + length (all_entries (names_upto t f)) ≡ start_of_share t f = omega (arith, entries_start t whole f (omega arith)) in
           ap (spans_from 0) (names_next t f) ∙ spans_snoc (names_upto t f) 0 (names t f)
-          ∙ ap (λ (k : ℕ). a ++ span_words (span_for k (names t f))) z
+          ∙ ap (λ (k : ℕ). a ++ (span_for k (names t f) ∷ [])) z
 
-      at : (rest : List ℕ) × (spans_from 0 (names_upto t (suc f) ++ drop (suc f) all) ≡ spans_from 0 (names_upto t (suc f)) ++ rest) → Stands spans (f * 4) b
+      at : (rest : List Span) × (spans_from 0 (names_upto t (suc f) ++ drop (suc f) all) ≡ spans_from 0 (names_upto t (suc f)) ++ rest) → span_of spans f ≡ b
       at (rest, e) =
           let d = drop (length (spans_from 0 all)) sp in
-          let q : spans ≡ a ++ (b ++ (rest ++ d)) =
+          let q : spans ≡ a ++ (b ∷ (rest ++ d)) =
           spans_made
-          ∙ ap (λ (l : List ℕ). l ++ d) (ap (spans_from 0) (split (suc f) (omega arith)) ∙ e ∙ ap (λ (l : List ℕ). l ++ rest) last)
-          ∙ append_assoc (a ++ b) rest d ∙ append_assoc a b (rest ++ d) in
-          rw q (between a b (rest ++ d) (f * 4) (spans_length (names_upto t f) 0 ∙ ap (λ (n : ℕ). n * 4) (names_length t f)))
+          ∙ ap (λ (l : List Span). l ++ d) (ap (spans_from 0) (split (suc f) (omega arith)) ∙ e ∙ ap (λ (l : List Span). l ++ rest) last)
+          ∙ append_assoc (a ++ (b ∷ [])) rest d ∙ append_assoc a (b ∷ []) (rest ++ d) in
+          ap (λ (l : List Span). span_of l f) q ∙ get_or_at a b (rest ++ d) no_span f (spans_length (names_upto t f) 0 ∙ names_length t f)
 
   front_of : (n : ℕ) → n ≤ function_count t → take (start_of_share t n * 3) entries ≡ words_of (all_entries (names_upto t n))
   front_of n h =

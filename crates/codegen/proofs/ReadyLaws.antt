@@ -1,8 +1,8 @@
 -- Accepted tables: every function met has its record, its stream is that of the record by itself, and words hold its numbers. Assumes nothing.
-use mathlib.Core.Path.{◌≡◌, refl, sym, ap, subst, ◌∙◌}
+use mathlib.Core.Path.{◌≡◌, sym, ap, subst, ◌∙◌}
 use mathlib.Core.Bool.{true}
 use mathlib.Core.List.{List, [], ◌∷◌}
-use Prim.Native.Nat.{ℕ, ◌*◌, ◌≤◌, ◌<◌, min}
+use Prim.Native.Nat.{ℕ, ◌*◌, ◌≤◌, ◌<◌}
 use native.Mathlib.Omega.{arith}
 use lib.ListN.{length, get_or, take as front}
 use Rattle.tables.specs.Record.{words, size, is_function}
@@ -12,19 +12,17 @@ use Rattle.tables.proofs.CheckLaws.{Kept, rows_kept}
 use Rattle.tables.proofs.TreeLaws.{Under, root_under}
 use Rattle.pool.specs.Names.{Semantic, semantic}
 use Rattle.pool.specs.Resolve.{Resolved}
-use Rattle.rules.specs.declared.Flow.{Flow}
-use Rattle.rules.specs.declared.Flow.TheVariants.{Go, Cut, Refused}
 use Rattle.rules.specs.Run.{Stream, State, marks, labels, flow, side, look, Lookup, full, run, alone}
 use Rattle.rules.proofs.Alone.{Runs, streams, Is-alone}
 use Rattle.rules.proofs.Count.{inside_at}
 use Rattle.rules.proofs.Numbers.{run_numbered, Every, stream_found}
 use Rattle.rules.proofs.Invariant.{Everywhere}
-use Rattle.rules.proofs.Levels.{run_records, run_functions, RefusedAt, run_refused, met_alone}
+use Rattle.rules.proofs.Levels.{run_records, run_functions, met_alone}
 use Rattle.rules.proofs.Bounds.{Bounds, table_bounds}
 use Rattle.rules.proofs.OutBounds.{OutBounds, out_bounds}
 use Rattle.rules.proofs.Accepted.{LentBounds, lent_bounds}
-use Rattle.emit.specs.Words.{limit, cap_flow}
-use Rattle.emit.specs.Does.{noted_look}
+use Rattle.context.specs.Words.{limit}
+use Rattle.context.specs.Does.{noted_look}
 use Rattle.codegen.specs.Call.{Sound, Roomy, lists}
 use Rattle.codegen.specs.Walks.{stack_code, ran, noted_run, single, Walkable}
 use Rattle.codegen.specs.Listing.{AllSmall, Own, met_of, stream_of, Ready, Spaced}
@@ -35,12 +33,6 @@ use Rattle.codegen.proofs.SpaceLaws.{space_kept}
 under_everywhere : (n : ℕ) (f : Forest) → Under n f → Everywhere (λ r w. r < n) f
 under_everywhere n none u = tt
 under_everywhere n (tree r w k s) (a, b, c) = (a, under_everywhere n k b, under_everywhere n s c)
-
--- a flow that is refused below the largest word, in words
-flow_exact : (n : ℕ) → n ≤ limit → (f : Flow) → RefusedAt (λ r. r < n) f → cap_flow f ≡ f
-flow_exact n h Go q = refl
-flow_exact n h (Cut k a b) q = refl
-flow_exact n h (Refused x r) q = let z : min r limit ≡ r = omega arith in ap (Refused x) z
 
 -- a run by some look-up
 module _ (L : Lookup) (recs : List ℕ) where
@@ -102,12 +94,6 @@ module _ (symbols references functions members recs : List ℕ) (sound : Sound s
 
   all_inside : Everywhere (λ r w. r < size recs) (root recs)
   all_inside = under_everywhere (size recs) (root recs) (root_under recs tables_kept.fits.records_some)
-
-  -- a run is refused at a record, whose number a word holds
-  pub refusal_exact : (L : Lookup) → cap_flow (flow (run stack_code L recs)) ≡ flow (run stack_code L recs)
-  refusal_exact L =
-      let z : size recs ≤ limit = omega (arith, tables_kept.fits.records_limit) in
-      flow_exact (size recs) z (flow (run stack_code L recs)) (run_refused (λ r. r < size recs) stack_code L recs tables_kept.root_is_function all_inside)
 
   module _ (ns : List ℕ) (noted : Resolved t recs ns) where
     pub walkable_of : Walkable ns recs

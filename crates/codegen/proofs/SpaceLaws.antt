@@ -2,11 +2,11 @@
 use mathlib.Core.Path.{◌≡◌, refl}
 use mathlib.Core.Bool.{Bool, true, false}
 use mathlib.Core.List.{List, [], ◌∷◌}
-use Prim.Native.Nat.{ℕ, suc, ◌*◌, ◌/◌, ◌≤◌}
+use Prim.Native.Nat.{ℕ, ◌+◌, ◌*◌, ◌/◌, ◌≤◌}
 use native.Mathlib.Omega.{arith}
 use native.Mathlib.Nat.{div-mul-le_self}
 use borrow.Author.Tests.{ltb-false}
-use Rattle.tables.specs.declared.refusal.Broken.TheVariants.{Nowhere, At}
+use Rattle.std.specs.Prelude.{None, Some}
 use Rattle.tables.specs.Lent.{first_refused}
 use Rattle.codegen.specs.Space.{scarce, space_broken}
 
@@ -17,15 +17,15 @@ pub record Space (records members functions markers constants names errors lines
   pub for_errors : records * 1 * 3 ≤ errors
   pub for_lines : functions * 1 * 7 ≤ lines
 
-never : (i : ℕ) → At i ≡ Nowhere → ⊥
+never : (i : ℕ) → Some i ≡ None → ⊥
 never i e = let z : ◌≡◌ {A = ℕ} 0 1 = cc in omega arith
 
 -- the first of some tests fails, and so do the others
-one : (i : ℕ) (b : Bool) (bs : List Bool) → first_refused i (b ∷ bs) ≡ Nowhere → b ≡ false
+one : (i : ℕ) (b : Bool) (bs : List Bool) → first_refused i (b ∷ bs) ≡ None → b ≡ false
 one i true bs e = absurd (never i e)
 one i false bs e = refl
 
-others : (i : ℕ) (b : Bool) (bs : List Bool) → first_refused i (b ∷ bs) ≡ Nowhere → first_refused (suc i) bs ≡ Nowhere
+others : (i : ℕ) (b : Bool) (bs : List Bool) → first_refused i (b ∷ bs) ≡ None → first_refused (i + 1) bs ≡ None
 others i true bs e = absurd (never i e)
 others i false bs e = e
 
@@ -34,7 +34,7 @@ unfolding scarce
 ample each width n words e = ltb-false (words / width) (n * each) e
 
 pub space_kept : (records members functions markers constants names errors lines : ℕ)
-    → space_broken records members functions markers constants names errors lines ≡ Nowhere
+    → space_broken records members functions markers constants names errors lines ≡ None
     → Space records members functions markers constants names errors lines
 unfolding space_broken
 space_kept records members functions markers constants names errors lines e =

@@ -4,6 +4,7 @@ use mathlib.Core.List.{List, ◌++◌}
 use Prim.Native.Nat.{ℕ, zero, suc, ◌+◌, ◌*◌, ◌≤◌, ◌<◌}
 use native.Mathlib.Omega.{arith}
 use lib.ListN.{length, length-append}
+use Rattle.pool.specs.declared.spans.Span.{Span}
 use Rattle.pool.specs.NameWords.{over}
 use Rattle.rules.specs.Run.{Stream, State}
 use Rattle.rules.specs.Out.{each_function}
@@ -12,7 +13,7 @@ use Rattle.codegen.specs.Listing.{markers_of, constants_of, line_of, stream_of, 
 use Rattle.codegen.proofs.OverLaws.{over_length, over_behind}
 
 -- n functions are written, up to these places
-pub record Going (A : State) (recs spans markers₀ constants₀ lines₀ markers constants lines : List ℕ) (n : ℕ) (at : Reached) : Type 0 where
+pub record Going (A : State) (recs : List ℕ) (spans : List Span) (markers₀ constants₀ lines₀ markers constants lines : List ℕ) (n : ℕ) (at : Reached) : Type 0 where
   pub few : n ≤ met_of A
   pub markers_laid : markers ≡ over (first_of A markers_of n) markers₀
   pub constants_laid : constants ≡ over (first_of A constants_of n) constants₀
@@ -48,7 +49,7 @@ module _ (A : State) where
       h ∙ ap (λ (l : List ℕ). over_at i (f (stream_of A n)) l) e ∙ over_behind (first_of A f n) (f (stream_of A n)) ws₀ i q
       ∙ ap (λ (j : ℕ). over (first_of A f j) ws₀) z
 
-  module _ (recs spans markers₀ constants₀ lines₀ : List ℕ) where
+  module _ (recs : List ℕ) (spans : List Span) (markers₀ constants₀ lines₀ : List ℕ) where
     pub going_start : Going A recs spans markers₀ constants₀ lines₀ markers₀ constants₀ lines₀ 0 (record { markers = 0; constants = 0 })
     unfolding each_function
     going_start = record {

@@ -1,4 +1,4 @@
--- A walk from a begun frame: the whole run, and one function by itself. Assumes nothing.
+-- A walk from a begun context: the whole run, and one function by itself. Assumes nothing.
 use mathlib.Core.Path.{◌≡◌, refl, sym, ap, ◌∙◌, subst}
 use mathlib.Core.Bool.{Bool, true, false, cond}
 use mathlib.Core.List.{List, [], ◌∷◌}
@@ -15,22 +15,25 @@ use Rattle.rules.specs.Arms.{stream_steps}
 use Rattle.rules.specs.Run.{Error, Side, State, side, anew, nested, nothing, idle, exec, alone}
 use Rattle.rules.specs.Out.{consts}
 use Rattle.rules.proofs.Enough.{run_enough}
-use Rattle.emit.specs.Words.{limit, SIZE, put}
-use Rattle.emit.specs.Sinks.{beginning}
-use Rattle.emit.specs.Rep.{lent, outs, Outs, Lent, Walk, within, mode, Scoped, lay, note, Flat, Noted, Rep, Sim}
-use Rattle.emit.specs.Does.{noted_look, near, own_stream, does, doing, Arm}
-use Rattle.emit.proofs.Basics.{clash}
-use Rattle.emit.proofs.InsideLaws.{started}
-use Rattle.emit.proofs.VisitLaws.{stream_does}
+use Rattle.std.specs.Borrow.{MutBor}
+use Rattle.context.specs.Words.{limit}
+use Rattle.context.specs.Sinks.{with_code, with_consts, beginning}
+use Rattle.context.specs.Rep.{lent_words, Lent, Walk, within, mode, Scoped, lay, note, Flat, Noted, Rep, Sim}
+use Rattle.context.specs.Does.{noted_look, near, own_stream, does, doing}
+use Rattle.context.specs.declared.Context.{Context}
+use Rattle.codegen.specs.declared.walks.Counted.{Counted}
+use Rattle.context.proofs.Basics.{clash}
+use Rattle.context.proofs.InsideLaws.{started}
+use Rattle.context.proofs.VisitLaws.{stream_does}
 use Rattle.codegen.specs.Walks.{stack_code, noted_run, single, Walkable, Walked, Streamed}
 
 -- no error is noted yet
-none_yet : (o : Outs) → Noted o [] o
+none_yet : (o cs : List ℕ) → Noted o cs [] o cs
 unfolding note
-none_yet o = record { errors = λ lt. refl; consts = refl }
+none_yet o cs = record { errors = λ lt. refl; consts = refl }
 
 -- Null is laid, and nothing else
-null_first : (recs code cs cs' : List ℕ) → cs' ≡ put3 cs 0 0 0 0 → Flat recs (outs code cs) [] (outs code cs') 0 1
+null_first : (recs code cs cs' : List ℕ) → cs' ≡ put3 cs 0 0 0 0 → Flat recs code cs [] code cs' 0 1
 unfolding lay consts laid
 null_first recs code cs cs' e =
     record { wrote = λ room. record { words = refl; table = e; told = told_start recs; entries = refl }; place = refl }
@@ -41,25 +44,27 @@ alone_side = record { errors = []; met = 1; streams = [] }
 
 module _ (ns recs : List ℕ) where
   abbrev e : Lent
-  e = lent recs ns
+  e = lent_words recs ns
 
   abbrev whole_walk : Walk
   whole_walk = record { code = stack_code; nest = true; function = 0 }
 
-  module _ (errors cs errors' cs' w w₁ w' : List ℕ) (size : length w ≡ SIZE) (begun : w₁ ≡ put w (beginning stack_code true 0))
-      (sim : Sim e (outs errors cs) w₁ (outs errors' cs') w' (λ c. nested c.nest 0 (words recs 0) (own_stream e (within 0 c) 0))) (z : Walkable ns recs) where
-    whole_rep : Rep whole_walk recs (outs errors cs) (noted_run ns recs) (outs errors' cs') w'
+  module _ {errors cs : MutBor (List ℕ)} {x x' : Context} (begun : x ≡ beginning errors cs stack_code true 0)
+      (sim : Sim e x x' (λ c. nested c.nest 0 (words recs 0) (own_stream e (within 0 c) 0))) (z : Walkable ns recs) where
+    whole_rep : Rep whole_walk recs (with_code errors.now (with_consts cs.now x)) (noted_run ns recs) x'
     unfolding own_stream
     whole_rep =
-        subst (λ (A : State). Rep whole_walk recs (outs errors cs) A (outs errors' cs') w') (run_enough stack_code (noted_look ns) recs 128 z.shallow)
-        (sim.sim z.scoped whole_walk (outs errors cs) nothing
-        (started stack_code true 0 w (side nothing) refl (λ n. refl) (λ n. absurd (clash n)) (λ n. none_yet (outs errors cs)) size begun))
+        subst (λ (A : State). Rep whole_walk recs (with_code errors.now (with_consts cs.now x)) A x') (run_enough stack_code (noted_look ns) recs 128 z.shallow)
+        (sim.sim z.scoped whole_walk (with_code errors.now (with_consts cs.now x)) nothing
+        (started errors.now cs.now errors cs stack_code true 0 (side nothing) refl (λ n. refl) (λ n. absurd (clash n)) (λ n. none_yet errors.now cs.now) begun))
 
-    pub whole_walked : Walked (noted_run ns recs) w'
-    whole_walked = let h = whole_rep.reads in record { sized = whole_rep.size; flow = h.flow; errors = h.errors; met = (h.met refl).0 }
+    pub whole_walked : Walked (noted_run ns recs) (record { flow = x'.flow; functions = x'.functions; errors = x'.error_count })
+    whole_walked = let h = whole_rep in record { flow = h.flow; errors = h.errors; met = h.met refl }
 
-    pub whole_words : length (side (noted_run ns recs)).errors < limit → errors' ≡ note errors (side (noted_run ns recs)).errors
-    whole_words = (whole_rep.reads.noted refl).errors
+    -- the slice that was written is the one that was lent
+    pub whole_words : {final : List ℕ} → (errors.ghost_name ≡ x'.code.ghost_name → final ≡ x'.code.now)
+        → length (side (noted_run ns recs)).errors < limit → final ≡ note errors.now (side (noted_run ns recs)).errors
+    whole_words k lt = k (sym (whole_rep.code ∙ ap (λ (y : Context). y.code.ghost_name) begun)) ∙ (whole_rep.noted refl).errors lt
 
   module _ (r : ℕ) where
     abbrev flat_walk : Walk
@@ -80,14 +85,23 @@ module _ (ns recs : List ℕ) where
         go true = refl
         go false = refl
 
-    pub stream_walked : (code cs cs₁ code' cs' w w₁ w' : List ℕ) → length w ≡ SIZE → cs₁ ≡ put3 cs 0 0 0 0 → w₁ ≡ put w (beginning stack_code false r)
-        → Arm recs ns code cs₁ w₁ code' cs' w' r (λ sc p k. stream_steps p) → Scoped e → Streamed recs (single ns recs r) code cs code' cs' w'
-    unfolding own_stream alone
-    stream_walked code cs cs₁ code' cs' w w₁ w' size q begun sim z =
-        let h = subst (λ (A : State). Rep flat_walk recs (outs code cs) A (outs code' cs') w') (body_idle (anew (record { errors = []; met = 0; streams = [] })))
-        (sim.sim z flat_walk (outs code cs) (anew (record { errors = []; met = 0; streams = [] }))
-        (started stack_code false r w alone_side refl (λ n. absurd (clash (sym n))) (λ n. null_first recs code cs cs₁ q) (λ n. absurd (clash (sym n))) size begun)) in
-        record { sized = h.size; wrote = (h.reads.flat refl).wrote; place = (h.reads.flat refl).place; labels = h.reads.labels }
+    module _ {code cs : MutBor (List ℕ)} {before : List ℕ} {x x' : Context} (q : cs.now ≡ put3 before 0 0 0 0) (begun : x ≡ beginning code cs stack_code false r)
+        (sim : Sim e x x' (λ c. does e c r (stream_steps (words recs r)))) (z : Scoped e) where
+      stream_rep : Rep flat_walk recs (with_code code.now (with_consts before x)) (single ns recs r) x'
+      unfolding own_stream alone
+      stream_rep =
+          subst (λ (A : State). Rep flat_walk recs (with_code code.now (with_consts before x)) A x') (body_idle (anew (record { errors = []; met = 0; streams = [] })))
+          (sim.sim z flat_walk (with_code code.now (with_consts before x)) (anew (record { errors = []; met = 0; streams = [] }))
+          (started code.now before code cs stack_code false r alone_side refl (λ n. absurd (clash (sym n))) (λ n. null_first recs code.now before cs.now q)
+          (λ n. absurd (clash (sym n))) begun))
+
+      pub stream_walked : {code' cs' : List ℕ} → (code.ghost_name ≡ x'.code.ghost_name → code' ≡ x'.code.now)
+          → (cs.ghost_name ≡ x'.consts.ghost_name → cs' ≡ x'.consts.now)
+          → Streamed recs (single ns recs r) code.now before code' cs' (record { markers = x'.marker_count; labels = x'.label_count; consts = x'.const_count })
+      stream_walked {code'} {cs'} k l =
+          let h = stream_rep in
+          let n : Counted = record { markers = x'.marker_count; labels = x'.label_count; consts = x'.const_count } in
+          rw (k (sym (h.code ∙ ap (λ (y : Context). y.code.ghost_name) begun)), l (sym (h.consts ∙ ap (λ (y : Context). y.consts.ghost_name) begun))) (record { wrote = (h.flat refl).wrote; place = (h.flat refl).place; labels = h.labels })
 
 -- no error, no word
 pub none_noted : (ws : List ℕ) (es : List Error) (n : ℕ) → n ≡ length es → n ≤ 0 → ws ≡ note ws es

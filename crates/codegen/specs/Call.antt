@@ -1,20 +1,19 @@
 -- The call: what it answers and what it writes. Definitions only.
-use Rattle.std.specs.Prelude.{◌≡◌, cond, List, [], ◌∷◌, ℕ, zero, suc, ◌*◌, ◌≤◌, ◌<◌, length, take, ltb}
-use Rattle.tables.specs.declared.refusal.Broken.TheVariants.{Nowhere}
+use Rattle.std.specs.Prelude.{◌≡◌, cond, List, [], ◌∷◌, ℕ, zero, suc, ◌*◌, ◌≤◌, ◌<◌, length, take, ltb, None, Ok, Err}
 use Rattle.tables.specs.declared.refusal.Refusal.TheVariants.{Table, Space, Run}
-use Rattle.tables.specs.declared.refusal.Checked.{Checked}
-use Rattle.tables.specs.declared.refusal.Checked.TheVariants.{Accepted, Refused as Broke}
+use Rattle.tables.specs.Refusal.{Checked}
 use Rattle.tables.specs.Refusal.{number_of, place_of}
 use Rattle.tables.specs.Record.{size}
 use Rattle.tables.specs.Semantic.{pairs}
 use Rattle.tables.specs.Lent.{lent_broken}
 use Rattle.tables.specs.Check.{refusing, rows_of}
+use Rattle.pool.specs.declared.spans.Span.{Span}
 use Rattle.pool.specs.Names.{Semantic, semantic}
 use Rattle.pool.specs.NameWords.{over}
 use Rattle.rules.specs.Run.{Side, State, side}
 use Rattle.rules.specs.Out.{Out, out, Outcome, listed, refused, outcome}
-use Rattle.emit.specs.Words.{limit}
-use Rattle.emit.specs.Rep.{note}
+use Rattle.context.specs.Words.{limit}
+use Rattle.context.specs.Rep.{note}
 use Rattle.codegen.specs.Walks.{stack_code, ran}
 use Rattle.codegen.specs.Demand.{Demand3On}
 use Rattle.codegen.specs.Space.{space_broken}
@@ -32,8 +31,8 @@ checked_of strings bytes symbols references functions members records markers co
 
 -- a table that they accept is run
 abbrev pub past : Checked → Answer → Answer
-past Accepted a = a
-past (Broke x) a = Refused x
+past (Ok x) a = a
+past (Err x) a = Refused x
 
 -- "An accepted answer tells how many lines and errors there are", and "a forecast: a number of markers that no run exceeds, 32 × records"; "10 to 16 as the
 -- run meets them"
@@ -88,18 +87,18 @@ pub record Answered (t : Semantic) (recs : List ℕ) (a : Answer) (o o' : Out) :
 pub record Sound (symbols references functions members records : List ℕ) : Type 0 where
   pub strings : List ℕ
   pub bytes : List ℕ
-  pub row_one : lent_broken strings bytes symbols references functions members records ≡ Nowhere
-  pub rows : rows_of strings bytes symbols references functions members records ≡ Accepted
+  pub row_one : lent_broken strings bytes symbols references functions members records ≡ None
+  pub rows : rows_of strings bytes symbols references functions members records ≡ Ok tt
 
 -- row 2 is well
 abbrev pub Roomy : Semantic → List ℕ → Out → Type 0
 Roomy t recs o =
     space_broken (size recs) (length t.members) (pairs t.functions) (length o.markers) (length o.constants) (length o.names_out) (length o.errors)
     (length o.lines)
-    ≡ Nowhere
+    ≡ None
 
 -- the names' words are there, and the outputs have room for the run A
-pub record Listable (A : State) (entries spans : List ℕ) (o : Out) : Type 0 where
+pub record Listable (A : State) (entries : List ℕ) (spans : List Span) (o : Out) : Type 0 where
   pub some : 0 < met_of A
   pub few : length (side A).errors < limit
   pub made : name_count spans (met_of A) ≤ length entries
@@ -107,7 +106,7 @@ pub record Listable (A : State) (entries spans : List ℕ) (o : Out) : Type 0 wh
   pub spaced : Spaced A o.markers o.constants o.lines
 
 -- the run A is listed: the outputs o are o' then
-pub record Listed (A : State) (recs entries spans : List ℕ) (a : Answer) (o o' : Out) : Type 0 where
+pub record Listed (A : State) (recs entries : List ℕ) (spans : List Span) (a : Answer) (o o' : Out) : Type 0 where
   pub answer : a ≡ Listing (met_of A) (length (side A).errors) (size recs * 32)
   pub streams : Streams A recs spans o.markers o'.markers o.constants o'.constants o.lines o'.lines
   pub names : o'.names_out ≡ over (take (name_count spans (met_of A)) entries) o.names_out

@@ -2,11 +2,12 @@
 use Rattle.std.specs.Prelude.{◌≡◌, true, List, [], ◌∷◌, ◌++◌, ℕ, ◌+◌, ◌*◌, ◌≤◌, ◌<◌, length, take, drop}
 use Rattle.tables.specs.Record.{word, words, size, is_function}
 use Rattle.tables.specs.Forest.{own_tree, children}
+use Rattle.pool.specs.declared.spans.Span.{Span}
 use Rattle.pool.specs.NameWords.{over, span_of}
 use Rattle.rules.specs.Marker.{Op, Label, To, Back, Leave, Load, Do, Mark, mark}
 use Rattle.rules.specs.Run.{Stream, State, marks as marks_of, labels as labels_of, side as side_of}
 use Rattle.rules.specs.Out.{consts, marker_words, const_words, loop_depth, stream_numbered, each_function}
-use Rattle.emit.specs.Words.{limit}
+use Rattle.context.specs.Words.{limit}
 use Rattle.codegen.specs.Places.{Numbered}
 use Rattle.codegen.specs.Walks.{noted_run, single, Walkable}
 use Rattle.codegen.specs.declared.streams.Reached.{Reached}
@@ -32,7 +33,7 @@ abbrev pub constants_of : Stream → List ℕ
 constants_of x = const_words (consts x.marks)
 
 -- "a line counting its markers, labels, constants, locals, globals, upvalues and loop depth", the names as their spans count them
-abbrev pub line_of : (recs spans : List ℕ) → Stream → List ℕ
+abbrev pub line_of : (recs : List ℕ) (spans : List Span) → Stream → List ℕ
 line_of recs spans x =
     length x.marks ∷ x.labels ∷ length (consts x.marks) ∷ (span_of spans x.number).locals ∷ (span_of spans x.number).globals
     ∷ (span_of spans x.number).upvalues ∷ loop_depth (own_tree (children recs x.at)) ∷ []
@@ -77,7 +78,7 @@ abbrev pub over_at : ℕ → List ℕ → List ℕ → List ℕ
 over_at i xs ws = take i ws ++ over xs (drop i ws)
 
 -- function n is written
-pub record Turned (A : State) (recs spans : List ℕ) (n : ℕ) (at : Reached) (markers markers' constants constants' lines lines' : List ℕ) (at' : Reached) : Type 0 where
+pub record Turned (A : State) (recs : List ℕ) (spans : List Span) (n : ℕ) (at : Reached) (markers markers' constants constants' lines lines' : List ℕ) (at' : Reached) : Type 0 where
   pub markers_laid : markers' ≡ over_at at.markers (markers_of (stream_of A n)) markers
   pub constants_laid : constants' ≡ over_at at.constants (constants_of (stream_of A n)) constants
   pub lines_laid : lines' ≡ over_at (n * 7) (line_of recs spans (stream_of A n)) lines
@@ -91,7 +92,7 @@ pub record Spaced (A : State) (markers constants lines : List ℕ) : Type 0 wher
   pub lines_fit : met_of A * 7 ≤ length lines
 
 -- all functions met are written
-pub record Streams (A : State) (recs spans markers markers' constants constants' lines lines' : List ℕ) : Type 0 where
+pub record Streams (A : State) (recs : List ℕ) (spans : List Span) (markers markers' constants constants' lines lines' : List ℕ) : Type 0 where
   pub markers_laid : markers' ≡ over (first_of A markers_of (met_of A)) markers
   pub constants_laid : constants' ≡ over (first_of A constants_of (met_of A)) constants
   pub lines_laid : lines' ≡ over (first_of A (line_of recs spans) (met_of A)) lines

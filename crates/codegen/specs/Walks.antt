@@ -1,14 +1,17 @@
--- The run by the notes and by the lent tables, and what a walk leaves in the frame and the lent words. Definitions only.
-use Rattle.std.specs.Prelude.{◌≡◌, false, List, ℕ, ◌≤◌, length, take}
+-- The run by the notes and by the lent tables, and what a walk tells and leaves in the lent words. Definitions only.
+use Rattle.std.specs.Prelude.{◌≡◌, false, List, ℕ, ◌≤◌, min, length, take}
 use Rattle.tables.specs.Record.{words}
 use Rattle.tables.specs.Forest.{children, root, levels}
 use Rattle.pool.specs.Names.{Semantic}
 use Rattle.rules.specs.declared.StackCode.{StackCode}
 use Rattle.rules.specs.declared.StackCode.TheVariants.{Code1}
 use Rattle.rules.specs.Run.{State, marks as marks_of, labels as labels_of, flow as flow_of, side as side_of, look, run, alone}
-use Rattle.emit.specs.Words.{cap, MARKERS, LABELS, CONSTS, ERRORS, FUNCTIONS, KEPT, SIZE, at, flow_in, cap_flow}
-use Rattle.emit.specs.Rep.{outs, lent, Room, Wrote, Scoped}
-use Rattle.emit.specs.Does.{noted_look}
+use Rattle.pool.specs.Consts.{most}
+use Rattle.context.specs.Words.{cap, KEPT}
+use Rattle.context.specs.Rep.{lent_words, Room, Wrote, Scoped}
+use Rattle.codegen.specs.declared.walks.Judged.{Judged}
+use Rattle.codegen.specs.declared.walks.Counted.{Counted}
+use Rattle.context.specs.Does.{noted_look}
 
 -- the stack code that is generated; request 11 of document 02 makes it an argument of the call
 abbrev pub stack_code : StackCode
@@ -27,23 +30,17 @@ single ns recs r = alone (noted_look ns) (record { code = stack_code; nest = fal
 
 -- what a walk rests on: a word can number the records, the notes name earlier siblings, and row 8
 pub record Walkable (ns recs : List ℕ) : Type 0 where
-  pub scoped : Scoped (lent recs ns)
+  pub scoped : Scoped (lent_words recs ns)
   pub shallow : levels (root recs) ≤ KEPT
 
--- the words of a frame, as many as its type says
-abbrev pub Sized : List ℕ → Type 0
-Sized frame = length frame ≡ SIZE
-
--- the frame tells how a run ended, how many functions it met and how many errors it kept
-pub record Walked (A : State) (frame : List ℕ) : Type 0 where
-  pub sized : Sized frame
-  pub flow : flow_in (at frame) ≡ cap_flow (flow_of A)
-  pub errors : at frame ERRORS ≡ cap (length (side_of A).errors)
-  pub met : at frame FUNCTIONS ≡ cap (side_of A).met
+-- how a run ended, how many functions it met and how many errors it kept
+pub record Walked (A : State) (j : Judged) : Type 0 where
+  pub flow : j.flow ≡ flow_of A
+  pub errors : j.errors ≡ cap (length (side_of A).errors)
+  pub met : j.functions ≡ min (side_of A).met most
 
 -- one function's stream: its markers and constants are laid where there is room, and counted
-pub record Streamed (recs : List ℕ) (A : State) (code consts code' consts' frame : List ℕ) : Type 0 where
-  pub sized : Sized frame
-  pub wrote : Room (outs code consts) (marks_of A) → Wrote recs (outs code consts) (marks_of A) (outs code' consts') (at frame CONSTS)
-  pub place : at frame MARKERS ≡ cap (length (marks_of A))
-  pub labels : at frame LABELS ≡ cap (labels_of A)
+pub record Streamed (recs : List ℕ) (A : State) (code consts code' consts' : List ℕ) (n : Counted) : Type 0 where
+  pub wrote : Room consts (marks_of A) → Wrote recs code consts (marks_of A) code' consts' n.consts
+  pub place : n.markers ≡ cap (length (marks_of A))
+  pub labels : n.labels ≡ cap (labels_of A)

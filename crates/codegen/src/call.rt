@@ -9,17 +9,16 @@ ghost use Rattle.codegen.specs.Call.{lists, Roomy, Listable, Listed, Sound, Answ
 use crate::copied::name_words;
 use crate::space::space;
 use crate::streams::streams;
-use crate::walks::{error_words, judge};
-use emit::frame;
-use emit::frame::Frame;
+use crate::walks::{Judged, error_words, judge};
+use context::tree::Tree;
 use pool::notes;
-use pool::notes::Notes;
 use pool::resolve::resolve;
+use pool::spans::Span;
 use rules::Flow;
 use tables::ast::size;
 use tables::check::rows;
-use tables::lent::lent;
-use tables::refusal::{Broken, Checked, Refusal};
+use tables::lent::{Tables, lent};
+use tables::refusal::Refusal;
 
 // "An answer is a listing or a refusal, the refusal holding where it arose."
 #[derive(Clone, Copy)]
@@ -32,35 +31,34 @@ pub enum Answer {
     Refused(Refusal),
 }
 
-// A run that is not refused, as the frame tells it: the words of the functions met, their names, and the errors.
+// A run that is not refused, as it was judged: the words of the functions met, their names, and the errors.
 fn listed(
-    recs: &[u32],
-    notes: &Notes,
+    tree: &Tree,
     entries: &[u32],
-    spans: &[u32],
+    spans: &[Span],
     markers: &mut [u32],
     constants: &mut [u32],
     named: &mut [u32],
     errors: &mut [u32],
     lines: &mut [u32],
-    frame: &mut Frame,
+    judged: Judged,
 ) -> Answer
-    requires ready { Ready notes.now recs.now }
-    requires walked { Walked (noted_run notes.now recs.now) frame.old }
-    requires listable { Listable (noted_run notes.now recs.now) entries.now spans.now (lists markers.old constants.old named.old errors.old lines.old) }
-    ensures { Listed (noted_run notes.now recs.now) recs.now entries.now spans.now result
+    requires ready { Ready tree.now.notes.now tree.now.records.now }
+    requires walked { Walked (noted_run tree.now.notes.now tree.now.records.now) judged }
+    requires listable { Listable (noted_run tree.now.notes.now tree.now.records.now) entries.now spans.now (lists markers.old constants.old named.old errors.old lines.old) }
+    ensures { Listed (noted_run tree.now.notes.now tree.now.records.now) tree.now.records.now entries.now spans.now result
         (lists markers.old constants.old named.old errors.old lines.old)
         (lists markers.new constants.new named.new errors.new lines.new) }
 {
-    let met = frame::functions(frame) as usize;
-    let count = frame::errors(frame) as usize;
-    streams(recs, notes, spans, markers, constants, lines, frame, met);
+    let met = judged.functions;
+    let count = judged.errors as usize;
+    streams(tree, spans, markers, constants, lines, met);
     name_words(entries, spans, named, met);
-    error_words(recs, notes, errors, frame, count);
+    error_words(tree, errors, count);
     Answer::Listing {
         lines: met,
         errors: count,
-        forecast: size(recs) * 32,
+        forecast: size(tree.records) * 32,
     }
 }
 
@@ -85,7 +83,7 @@ fn accepted(
         (lists markers.new constants.new named.new errors.new lines.new) }
 {
     let mut entries = [0u32; 3072];
-    let mut spans = [0u32; 1024];
+    let mut spans = [Span::default(); 256];
     let mut notes = [0u32; notes::SIZE];
     resolve(
         recs,
@@ -97,56 +95,41 @@ fn accepted(
         &mut spans,
         &mut notes,
     );
-    let mut frame = [0u32; frame::SIZE];
-    judge(recs, &notes, &mut frame);
-    if let Flow::Refused(rule, r) = frame::flow(&frame) {
+    let tree = Tree {
+        records: recs,
+        notes: &notes,
+    };
+    let judged = judge(&tree);
+    if let Flow::Refused(rule, r) = judged.flow {
         return Answer::Refused(Refusal::Run(rule, r));
     }
     listed(
-        recs, &notes, &entries, &spans, markers, constants, named, errors, lines, &mut frame,
+        &tree, &entries, &spans, markers, constants, named, errors, lines, judged,
     )
 }
 
 // Rows 1 to 9; the outputs are given by their lengths in words.
 fn check(
-    strings: &[u32],
-    bytes: &[u8],
-    symbols: &[u32],
-    references: &[u32],
-    functions: &[u32],
-    members: &[u32],
-    records: &[u32],
+    tables: &Tables,
     markers: usize,
     constants: usize,
     named: usize,
     errors: usize,
     lines: usize,
-) -> Checked
-    ensures { result ≡ checked_of strings.now bytes.now symbols.now references.now
-        functions.now members.now records.now markers constants named errors lines }
+) -> Result<(), Refusal>
+    ensures { result ≡ checked_of tables.now.strings.now tables.now.bytes.now tables.now.symbols.now tables.now.references.now
+        tables.now.functions.now tables.now.members.now tables.now.records.now markers constants named errors lines }
 {
-    if let Broken::At(i) = lent(
-        strings, bytes, symbols, references, functions, members, records,
-    ) {
-        return Checked::Refused(Refusal::Table(i));
+    if let Some(i) = lent(tables) {
+        return Err(Refusal::Table(i));
     }
-    let n = size(records);
-    let f = functions.len() / 2;
-    if let Broken::At(i) = space(
-        n,
-        members.len(),
-        f,
-        markers,
-        constants,
-        named,
-        errors,
-        lines,
-    ) {
-        return Checked::Refused(Refusal::Space(i));
+    let n = size(tables.records);
+    let f = tables.functions.len() / 2;
+    let m = tables.members.len();
+    if let Some(i) = space(n, m, f, markers, constants, named, errors, lines) {
+        return Err(Refusal::Space(i));
     }
-    rows(
-        strings, bytes, symbols, references, functions, members, records,
-    )
+    rows(tables)
 }
 
 // Document 01's call. A refusal changes no lent word; words past the written ones stay as they were.
@@ -185,7 +168,7 @@ pub fn gen_code(
     ensures demand3 { Demanded result (semantic symbols.now references.now functions.now members.now)
         records.now markers.new constants.new lines.new }
 {
-    if let Checked::Refused(why) = check(
+    let tables = Tables {
         strings,
         bytes,
         symbols,
@@ -193,6 +176,9 @@ pub fn gen_code(
         functions,
         members,
         records,
+    };
+    if let Err(why) = check(
+        &tables,
         markers.len(),
         constants.len(),
         names.len(),

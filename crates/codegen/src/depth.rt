@@ -23,9 +23,7 @@ pub(crate) fn depths(recs: &[u32], table: &mut [u32])
     requires { Roomed recs.now table.old }
     ensures { Depths recs.now table.new }
 {
-    let mut r = ast::size(recs);
-    while 1 < r {
-        r -= 1;
+    for r in (1..ast::size(recs)).rev() {
         let own = around(ast::kind(recs, r), table[ast::first(recs, r)]);
         let later = table[ast::next(recs, r)];
         table[r] = if own < later { later } else { own };

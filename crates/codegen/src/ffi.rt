@@ -5,7 +5,6 @@ ghost use Rattle.pool.specs.NameWords.{over};
 ghost use Rattle.codegen.specs.Call.{lists, answer_of, number_in, valued, Promised};
 
 use crate::call::{Answer, gen_code};
-use tables::refusal::{number, place};
 
 // Three values, where there is room.
 fn put(values: &mut [u64], a: u64, b: u64, c: u64)
@@ -33,8 +32,8 @@ fn report(values: &mut [u64], a: Answer) -> u32
             0
         }
         Answer::Refused(why) => {
-            put(values, place(why) as u64, 0, 0);
-            number(why)
+            put(values, why.place() as u64, 0, 0);
+            why.number()
         }
     }
 }

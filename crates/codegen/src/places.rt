@@ -10,12 +10,10 @@ pub(crate) fn places(recs: &[u32], table: &mut [u32])
     ensures { Places recs.now table.new }
 {
     let n = ast::size(recs);
-    let mut r: usize = 0;
-    while r < n {
+    for r in 0..n {
         if ast::kind(recs, r) == kind::FUNCTION {
             let number = ast::p(recs, r) as usize;
             table[number] = r as u32;
         }
-        r += 1;
     }
 }

@@ -2,7 +2,7 @@
 ghost use Rattle.std.specs.Prelude.{◌≡◌, ◌<◌};
 ghost use Rattle.codegen.specs.Space.{scarce as scarce_of, space_broken};
 
-use tables::refusal::Broken;
+use tables::lent::first;
 
 // Whether the words have room for fewer whole entries than so many for each of n.
 fn scarce(each: usize, width: usize, n: usize, words: usize) -> bool
@@ -23,23 +23,14 @@ pub(crate) fn space(
     names: usize,
     errors: usize,
     lines: usize,
-) -> Broken
+) -> Option<usize>
     ensures { result ≡ space_broken records members functions markers constants names errors lines }
 {
-    if scarce(32, 2, records, markers) {
-        return Broken::At(0);
-    }
-    if scarce(3, 3, records, constants) {
-        return Broken::At(1);
-    }
-    if scarce(1, 3, members, names) {
-        return Broken::At(2);
-    }
-    if scarce(1, 3, records, errors) {
-        return Broken::At(3);
-    }
-    if scarce(1, 7, functions, lines) {
-        return Broken::At(4);
-    }
-    Broken::Nowhere
+    first(&[
+        scarce(32, 2, records, markers),
+        scarce(3, 3, records, constants),
+        scarce(1, 3, members, names),
+        scarce(1, 3, records, errors),
+        scarce(1, 7, functions, lines),
+    ])
 }

@@ -1,77 +1,114 @@
 // The walks: the run judged with the functions inside, its errors' words, and the stream of one function.
 ghost use Rattle.std.specs.Prelude.{◌≡◌, ◌<◌, length};
 ghost use Rattle.rules.specs.Run.{side};
-ghost use Rattle.emit.specs.Words.{limit};
-ghost use Rattle.emit.specs.Rep.{lent, note, Scoped};
-ghost use Rattle.codegen.specs.Walks.{stack_code, noted_run, single, Walkable, Sized, Walked, Streamed};
+ghost use Rattle.context.specs.Words.{limit};
+ghost use Rattle.context.specs.Rep.{lent, note, Scoped};
+ghost use Rattle.codegen.specs.Walks.{noted_run, single, Walkable, Walked, Streamed};
 
-use emit::frame;
-use emit::frame::Frame;
+use context::tree::Tree;
+use context::{Context, KEPT};
+use opcode::index::LabelId;
 use pool::consts::start_consts;
-use pool::notes::Notes;
-use rules::StackCode;
+use rules::{Flow, StackCode};
 use visit::{body, inner};
 
 // The stack code that is generated.
 const STACK: StackCode = StackCode::Code1;
 
+// How a run ended, how many functions it met and how many errors it kept.
+#[derive(Clone, Copy)]
+pub(crate) struct Judged {
+    pub flow: Flow,
+    pub functions: usize,
+    pub errors: u32,
+}
+
+// How many markers, labels and constants a function's stream has.
+#[derive(Clone, Copy)]
+pub(crate) struct Counted {
+    pub markers: u32,
+    pub labels: u32,
+    pub consts: u32,
+}
+
 // The whole run: its errors' words go to errors, where they have room.
-fn whole(recs: &[u32], notes: &Notes, errors: &mut [u32], frame: &mut Frame)
-    requires walkable { Walkable notes.now recs.now }
-    requires sized { Sized frame.old }
-    ensures run { Walked (noted_run notes.now recs.now) frame.new }
-    ensures words { length (side (noted_run notes.now recs.now)).errors < limit
-        → errors.new ≡ note errors.old (side (noted_run notes.now recs.now)).errors }
+fn whole(tree: &Tree, errors: &mut [u32]) -> Judged
+    requires { Walkable tree.now.notes.now tree.now.records.now }
+    ensures run { Walked (noted_run tree.now.notes.now tree.now.records.now) result }
+    ensures words { length (side (noted_run tree.now.notes.now tree.now.records.now)).errors < limit
+        → errors.new ≡ note errors.old (side (noted_run tree.now.notes.now tree.now.records.now)).errors }
 {
     let mut none = [0u32; 0];
-    frame::begin(frame, STACK, true, 0);
-    inner(recs, notes, errors, &mut none, frame, 0)
+    let mut cx = Context {
+        code: errors,
+        consts: &mut none,
+        marker_count: 0,
+        label_count: 0,
+        const_count: 1,
+        error_count: 0,
+        continue_stack: [LabelId(0); KEPT],
+        depth: 0,
+        flow: Flow::Go,
+        functions: 0,
+        nest: true,
+        function: 0,
+        stack: STACK,
+    };
+    inner(tree, &mut cx, 0);
+    Judged {
+        flow: cx.flow,
+        functions: cx.functions,
+        errors: cx.error_count,
+    }
 }
 
 // The run judged: nothing is written.
-pub(crate) fn judge(recs: &[u32], notes: &Notes, frame: &mut Frame)
-    requires walkable { Walkable notes.now recs.now }
-    requires sized { Sized frame.old }
-    ensures { Walked (noted_run notes.now recs.now) frame.new }
+pub(crate) fn judge(tree: &Tree) -> Judged
+    requires { Walkable tree.now.notes.now tree.now.records.now }
+    ensures { Walked (noted_run tree.now.notes.now tree.now.records.now) result }
 {
     let mut none = [0u32; 0];
-    whole(recs, notes, &mut none, frame)
+    whole(tree, &mut none)
 }
 
 // The errors' words, where there are errors: a walk more.
-pub(crate) fn error_words(
-    recs: &[u32],
-    notes: &Notes,
-    errors: &mut [u32],
-    frame: &mut Frame,
-    count: usize,
-)
-    requires walkable { Walkable notes.now recs.now }
-    requires sized { Sized frame.old }
-    requires counted { count ≡ length (side (noted_run notes.now recs.now)).errors }
+pub(crate) fn error_words(tree: &Tree, errors: &mut [u32], count: usize)
+    requires walkable { Walkable tree.now.notes.now tree.now.records.now }
+    requires counted { count ≡ length (side (noted_run tree.now.notes.now tree.now.records.now)).errors }
     requires few { count < limit }
-    ensures { errors.new ≡ note errors.old (side (noted_run notes.now recs.now)).errors }
+    ensures { errors.new ≡ note errors.old (side (noted_run tree.now.notes.now tree.now.records.now)).errors }
 {
     if 0 < count {
-        whole(recs, notes, errors, frame)
+        whole(tree, errors);
     }
 }
 
 // The function at record r by itself: its markers go to code, its constants to consts.
-pub(crate) fn stream(
-    recs: &[u32],
-    notes: &Notes,
-    code: &mut [u32],
-    consts: &mut [u32],
-    frame: &mut Frame,
-    r: usize,
-)
-    requires scoped { Scoped (lent recs.now notes.now) }
-    requires sized { Sized frame.old }
-    ensures { Streamed recs.now (single notes.now recs.now r) code.old consts.old
-        code.new consts.new frame.new }
+pub(crate) fn stream(tree: &Tree, code: &mut [u32], consts: &mut [u32], r: usize) -> Counted
+    requires { Scoped (lent tree.now) }
+    ensures { Streamed tree.now.records.now (single tree.now.notes.now tree.now.records.now r)
+        code.old consts.old code.new consts.new result }
 {
     start_consts(consts);
-    frame::begin(frame, STACK, false, r);
-    body(recs, notes, code, consts, frame, r)
+    let mut cx = Context {
+        code,
+        consts,
+        marker_count: 0,
+        label_count: 0,
+        const_count: 1,
+        error_count: 0,
+        continue_stack: [LabelId(0); KEPT],
+        depth: 0,
+        flow: Flow::Go,
+        functions: 0,
+        nest: false,
+        function: r,
+        stack: STACK,
+    };
+    body(tree, &mut cx, r);
+    Counted {
+        markers: cx.marker_count,
+        labels: cx.label_count,
+        consts: cx.const_count,
+    }
 }

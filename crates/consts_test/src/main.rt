@@ -1,7 +1,9 @@
 // Constants added one after the other; the answers and the words are those that document 01 and readings 20 and 21 give.
 #![tactic(auto)]
 
-use pool::consts::Added;
+use pool::consts::{ConstWords, add_const, start_consts};
+use pool::value::{ConstValue, LitKind};
+use std::io;
 
 // Effects 3 and 13 and Handler 20 are one; 8 differs in the variadic only, 26 in a parameter, 30 in the name.
 const RECORDS: [u32; 280] = [
@@ -17,108 +19,96 @@ const RECORDS: [u32; 280] = [
     0, 0, 34, 2, 0, 0, 8, 0, 0, 0, 0,
 ];
 
-fn line(index: usize, count: usize) {
-    io::print_decimal(1, index as u64);
-    io::write_all(1, b" ");
-    io::print_decimal(1, count as u64);
-    io::write_all(1, b"\n");
+// Constants one after the other, and how many there are.
+#[derive(Drop)]
+struct Consts<'a> {
+    words: &'a mut [u32],
+    count: usize,
 }
 
-// Adds a constant and writes where it stands; answers the new count.
-fn add(consts: &mut [u32], n: usize, kind: u32, low: u32, high: u32) -> usize {
-    let records = RECORDS;
-    let answer = pool::consts::add_const(&records, consts, n, kind, low, high);
-    match answer {
-        Added::At { index, count } => {
-            io::write_all(1, b"At ");
-            line(index, count);
-            count
+impl<'a> Consts<'a> {
+    // Adds a constant and writes where it stands.
+    fn add_words(&mut self, rt: &impl Print, words: ConstWords) -> io::Result<()> {
+        let records = RECORDS;
+        let added = add_const(&records, self.words, self.count, words);
+        let index = added.index;
+        let count = added.count;
+        if added.kept {
+            self.count = count;
+            println!(rt; "At {index} {count}")
+        } else {
+            // a full table has what it had
+            println!(rt; "Full {index} {count}")
         }
-        Added::Full { index, count } => {
-            io::write_all(1, b"Full ");
-            line(index, count);
-            count
-        }
+    }
+
+    fn add(&mut self, rt: &impl Print, kind: u32, low: u32, high: u32) -> io::Result<()> {
+        self.add_words(rt, ConstWords { kind, low, high })
+    }
+
+    fn lit(&mut self, rt: &impl Print, detail: u32, p: u32, q: u32) -> io::Result<()> {
+        let value = ConstValue::from(LitKind { detail, p, q });
+        self.add_words(rt, ConstWords::from(value))
     }
 }
 
-fn lit(consts: &mut [u32], n: usize, detail: u32, p: u32, q: u32) -> usize {
-    let w = pool::value::const_words(pool::value::lit_value(detail, p, q));
-    add(consts, n, w.kind, w.low, w.high)
+// Null, Bool with other unused words, Int beside a length.
+fn literals(rt: &impl Print, consts: &mut Consts) -> io::Result<()> {
+    consts.lit(rt, 0, 5, 0)?;
+    consts.lit(rt, 1, 1, 5)?;
+    consts.lit(rt, 1, 1, 6)?;
+    consts.lit(rt, 1, 0, 0)?;
+    consts.lit(rt, 2, 3, 0)?;
+    consts.add(rt, 2, 3, 0)?;
+    consts.lit(rt, 2, 3, 1)
 }
 
-// Null, Bool with other unused words, Int beside a length, floats by their bits, Str beside Bytes and a member's name.
-fn literals(consts: &mut [u32], start: usize) -> usize {
-    let mut n = start;
-    n = lit(consts, n, 0, 5, 0);
-    n = lit(consts, n, 1, 1, 5);
-    n = lit(consts, n, 1, 1, 6);
-    n = lit(consts, n, 1, 0, 0);
-    n = lit(consts, n, 2, 3, 0);
-    n = add(consts, n, 2, 3, 0);
-    n = lit(consts, n, 2, 3, 1);
-    n
-}
-
-fn floats(consts: &mut [u32], start: usize) -> usize {
-    let mut n = start;
-    n = lit(consts, n, 3, 0, 0);
-    n = lit(consts, n, 3, 0, 2147483648);
-    n = lit(consts, n, 3, 0, 2146959360);
-    n = lit(consts, n, 3, 0, 2146959360);
-    n
-}
-
-fn others(consts: &mut [u32], start: usize) -> usize {
-    let mut n = start;
-    n = lit(consts, n, 4, 4, 9);
-    n = lit(consts, n, 5, 4, 9);
-    n = add(consts, n, 4, 4, 0);
-    n = add(consts, n, 6, 4, 0);
-    n = add(consts, n, 8, 0, 0);
-    n
-}
-
-fn effects(consts: &mut [u32], start: usize) -> usize {
-    let mut n = start;
-    n = add(consts, n, 7, 3, 0);
-    n = add(consts, n, 7, 8, 0);
-    n = add(consts, n, 7, 13, 0);
-    n = add(consts, n, 7, 20, 0);
-    n = add(consts, n, 7, 26, 0);
-    n = add(consts, n, 7, 30, 0);
-    n
-}
-
-fn word(x: u32) {
-    io::print_decimal(1, x as u64);
-    io::write_all(1, b"\n");
-}
-
-fn words(consts: &[u32; 51]) {
-    let mut i: usize = 0;
-    while i < consts.len() {
-        word(consts[i]);
-        i += 1;
+// Floats by their bits.
+fn floats(rt: &impl Print, consts: &mut Consts) -> io::Result<()> {
+    for high in [0, 2147483648, 2146959360, 2146959360] {
+        consts.lit(rt, 3, 0, high)?;
     }
+    Ok(())
+}
+
+// Str beside Bytes and a member's name.
+fn others(rt: &impl Print, consts: &mut Consts) -> io::Result<()> {
+    consts.lit(rt, 4, 4, 9)?;
+    consts.lit(rt, 5, 4, 9)?;
+    consts.add(rt, 4, 4, 0)?;
+    consts.add(rt, 6, 4, 0)?;
+    consts.add(rt, 8, 0, 0)
+}
+
+fn effects(rt: &impl Print, consts: &mut Consts) -> io::Result<()> {
+    for record in [3, 8, 13, 20, 26, 30] {
+        consts.add(rt, 7, record, 0)?;
+    }
+    Ok(())
 }
 
 // The last two find no room for a new value and an old one in the full table.
-fn run(consts: &mut [u32]) {
-    let n = pool::consts::start_consts(consts);
-    let m = literals(consts, n);
-    let k = floats(consts, m);
-    let j = others(consts, k);
-    let full = effects(consts, j);
-    lit(consts, full, 2, 9, 0);
-    lit(consts, full, 2, 3, 1);
+fn run(rt: &impl Print, words: &mut [u32]) -> io::Result<()> {
+    let count = start_consts(words);
+    let mut consts = Consts { words, count };
+    literals(rt, &mut consts)?;
+    floats(rt, &mut consts)?;
+    others(rt, &mut consts)?;
+    effects(rt, &mut consts)?;
+    consts.lit(rt, 2, 9, 0)?;
+    consts.lit(rt, 2, 3, 1)
 }
 
-fn main() {
+fn main(rt: HostRuntime) -> io::Result<()> {
     // the words past the lent ones stay
-    let mut consts = [77u32; 51];
-    run(&mut consts[..48]);
-    words(&consts);
-    let mut none = [0u32; 0];
-    lit(&mut none, 1, 2, 9, 0);
+    let mut words = [77u32; 51];
+    run(&rt, &mut words[..48])?;
+    for word in &words {
+        println!(rt; "{word}")?;
+    }
+    let mut none = Consts {
+        words: &mut [],
+        count: 1,
+    };
+    none.lit(&rt, 2, 9, 0)
 }

@@ -1,28 +1,22 @@
 // genlist: the text of the tables on standard input; its listing, refusal or `input` on standard output.
 #![tactic(auto)]
 
-use lister::fronts::front_bytes;
 use lister::list::list_all;
+use std::io;
+use std::io::{Read, Write};
 
-const STDIN_FILENO: i32 = 0;
+// No more bytes are read.
+const MOST: u64 = 262144;
 
-const STDOUT_FILENO: i32 = 1;
-
-const STDERR_FILENO: i32 = 2;
-
-fn write(out: &[u8; 1048576], printed: usize) {
-    if !io::write_all(STDOUT_FILENO, front_bytes(out, printed)) {
-        io::write_all(
-            STDERR_FILENO,
-            b"genlist: standard output failed; what it has is not whole\n",
-        );
-    }
-}
-
-fn main() {
-    let mut text = [0u8; 262144];
+fn main(rt: HostRuntime) -> io::Result<()> {
+    let mut text = Vec::with_capacity(rt.alloc(), MOST as usize)?;
     let mut out = [0u8; 1048576];
-    let length = io::read_full(STDIN_FILENO, &mut text);
-    let printed = list_all(&text[..length], &mut out);
-    write(&out, printed);
+    // a reading that fails ends the text
+    let _ = rt.reader().take(MOST).read_to_end(&mut text);
+    let printed = list_all(&text, &mut out);
+    let listing = out.get(..printed).unwrap_or(&out);
+    if io::writer(&rt).write_all(listing).is_err() {
+        eprintln!(rt; "genlist: standard output failed; what it has is not whole")?;
+    }
+    Ok(())
 }

@@ -10,8 +10,8 @@ use lib.Dec.{ltb}
 use Rattle.tables.specs.Semantic.{pairs, share_start}
 use Rattle.tables.specs.Refusal.{number_of, place_of}
 use Rattle.tables.specs.declared.refusal.Refusal.TheVariants.{Run}
-use Rattle.tables.specs.declared.refusal.Checked.{Checked}
-use Rattle.tables.specs.declared.refusal.Checked.TheVariants.{Accepted, Refused as Broke}
+use Rattle.tables.specs.Refusal.{Checked}
+use Rattle.std.specs.Prelude.{Ok, Err}
 use Rattle.pool.specs.Names.{Semantic, semantic, Names, start_of_share, count_of_members, names}
 use Rattle.pool.specs.NameWords.{over}
 use Rattle.pool.proofs.NameUpto.{start_more}
@@ -119,11 +119,11 @@ module _ (t : Tables) (fits : Fits rooms t) (lent : Out) where
   by_checked : (c : Checked)
       → c ≡ checked_of t.strings t.bytes t.symbols t.references t.functions t.members t.records 8960 1260 420 420 980
       → length (text_of (past c (ran_of (semantic_of t) t.records))) < most
-  by_checked Accepted e =
+  by_checked (Ok x) e =
       by_outcome
-      (checked_sound t.strings t.bytes t.symbols t.references t.functions t.members t.records 8960 1260 420 420 980 Accepted e refl)
+      (checked_sound t.strings t.bytes t.symbols t.references t.functions t.members t.records 8960 1260 420 420 980 (Ok x) e refl)
       (outcome stack_code (semantic_of t) t.records)
-  by_checked (Broke x) e = omega (arith, refusal_length (number_of x) (place_of x))
+  by_checked (Err x) e = omega (arith, refusal_length (number_of x) (place_of x))
 
 call_fits : (t : Tables) → Fits rooms t → length (call_text t) < most
 unfolding call_text answer_of

@@ -3,14 +3,13 @@ use mathlib.Core.Bool.{Bool, cond}
 use mathlib.Core.List.{List}
 use mathlib.Core.Path.{◌≡◌, refl, sym, ap, subst, ◌∙◌}
 use Prim.Native.Nat.{ℕ, ◌+◌, ◌≤◌, ◌<◌}
-use native.Mathlib.Omega.{arith}
 use lib.ListN.{length, take, replicate, length-replicate}
 use borrow.Author.Tests.{lt-ltb, le-ltb}
 use Rattle.pool.specs.NameWords.{over}
 use Rattle.codegen.specs.Call.{answer_of, out_of, lists}
 use Rattle.codegen.specs.declared.call.Answer.{Answer}
-use Rattle.listing.specs.declared.read.Reading.{Reading}
-use Rattle.listing.specs.declared.read.Reading.TheVariants as reading
+use Rattle.std.proofs.Common.{Result, Ok, Err}
+use Rattle.listing.specs.declared.read.UnreadLine.{UnreadLine}
 use Rattle.listing.specs.declared.read.Sizes.{Sizes}
 use Rattle.listing.specs.Text.{Tables, Outcome, tables, input, read_of, rooms_of, reading_of, Holds, Begin}
 use Rattle.listing.specs.Print.{input_text, refusal_text}
@@ -52,25 +51,27 @@ fronts n a b c d e f g a' b' c' d' e' f' g' p q r s t u v = rw p (rw q (rw r (rw
 
 -- the reading of a text into what genlist lends
 read_rooms : (text front : List ℕ) → front ≡ take 262144 text
-    → read_of (rooms_of (replicate 280 0) (replicate 4096 0) (replicate 280 0) (replicate 140 0) (replicate 280 0) (replicate 140 0) (replicate 1120 0)) front
+    → read_of (rooms_of (given (replicate 280 0) (replicate 4096 0) (replicate 280 0) (replicate 140 0) (replicate 280 0) (replicate 140 0) (replicate 1120 0))) front
     ≡ read_of rooms (take 262144 text)
 read_rooms text front e =
     rw e (rw (length-replicate {A = ℕ} 280 0) (rw (length-replicate {A = ℕ} 4096 0) (rw (length-replicate {A = ℕ} 140 0) (rw (length-replicate {A = ℕ} 1120 0) refl))))
 
 -- the line that can't be read
-input_text_lem : (text : List ℕ) (o : Outcome) (r : Reading) (line : ℕ) → r ≡ reading_of o → r ≡ reading.Input line → input_text line ≡ printed text o
-input_text_lem text (input l) r line e f = let q : l ≡ line = cc in ap input_text (sym q)
-input_text_lem text (tables t) r line e f = let z : ◌≡◌ {A = ℕ} 0 1 = cc in absurd (omega arith)
+input_text_lem : (text : List ℕ) (o : Outcome) (r : Result Sizes UnreadLine) (unread : UnreadLine) → r ≡ reading_of o → r ≡ Err unread → input_text unread.line ≡ printed text o
+input_text_lem text (input l) r unread e f =
+    let z : UnreadLine = record { line = l } in
+    let q : z ≡ unread = cc in ap (λ (u : UnreadLine). input_text u.line) (sym q)
+input_text_lem text (tables t) r unread e f = cc
 
 -- tables of a text that is too long
-long_text : (text : List ℕ) (o : Outcome) (r : Reading) (n : Sizes) → r ≡ reading_of o → r ≡ reading.Tables n → 262144 ≤ length text
+long_text : (text : List ℕ) (o : Outcome) (r : Result Sizes UnreadLine) (n : Sizes) → r ≡ reading_of o → r ≡ Ok n → 262144 ≤ length text
     → input_text (feeds (take 262143 text) + 1) ≡ printed text o
-long_text text (input l) r n e f h = let z : ◌≡◌ {A = ℕ} 0 1 = cc in absurd (omega arith)
+long_text text (input l) r n e f h = cc
 long_text text (tables t) r n e f h =
     sym (ap (λ (b : Bool). cond b (call_text t) (input_text (feeds (take 262143 text) + 1))) (le-ltb (length text) 262144 h))
 
 -- what was lent holds the tables
-held : (t : Tables) (n : Sizes) (a b c d e f g : List ℕ) → reading.Tables n ≡ reading_of (tables t) → Begin t a b c d e f g → sized n a b c d e f g ≡ t
+held : (t : Tables) (n : Sizes) (a b c d e f g : List ℕ) → Ok n ≡ reading_of (tables t) → Begin t (given a b c d e f g) → sized n a b c d e f g ≡ t
 held t n a b c d e f g q h =
     let p : n ≡ record {
       strings = length t.strings;
@@ -84,9 +85,9 @@ held t n a b c d e f g q h =
     rw p (rw h.strings (rw h.bytes (rw h.symbols (rw h.references (rw h.functions (rw h.members (rw h.records refl)))))))
 
 -- tables of a text
-tables_text : (text : List ℕ) (o : Outcome) (r : Reading) (n : Sizes) (a b c d e f g : List ℕ) → r ≡ reading_of o → r ≡ reading.Tables n
-    → Holds o a b c d e f g → length text < 262144 → call_text (sized n a b c d e f g) ≡ printed text o
-tables_text text (input l) r n a b c d e f g p q h k = let z : ◌≡◌ {A = ℕ} 0 1 = cc in absurd (omega arith)
+tables_text : (text : List ℕ) (o : Outcome) (r : Result Sizes UnreadLine) (n : Sizes) (a b c d e f g : List ℕ) → r ≡ reading_of o → r ≡ Ok n
+    → Holds o (given a b c d e f g) → length text < 262144 → call_text (sized n a b c d e f g) ≡ printed text o
+tables_text text (input l) r n a b c d e f g p q h k = cc
 tables_text text (tables t) r n a b c d e f g p q h k =
     ap call_text (held t n a b c d e f g (sym q ∙ p) h)
     ∙ sym (ap (λ (x : Bool). cond x (call_text t) (input_text (feeds (take 262143 text) + 1))) (lt-ltb (length text) 262144 k))
@@ -94,21 +95,21 @@ tables_text text (tables t) r n a b c d e f g p q h k =
 -- what the lent tables are read into
 abbrev outcome : List ℕ → Outcome
 outcome front =
-    read_of (rooms_of (replicate 280 0) (replicate 4096 0) (replicate 280 0) (replicate 140 0) (replicate 280 0) (replicate 140 0) (replicate 1120 0)) front
+    read_of (rooms_of (given (replicate 280 0) (replicate 4096 0) (replicate 280 0) (replicate 140 0) (replicate 280 0) (replicate 140 0) (replicate 1120 0))) front
 
-pub list_input : (text front : List ℕ) (r : Reading) (line : ℕ) → front ≡ take 262144 text → r ≡ reading_of (outcome front) → r ≡ reading.Input line
-    → input_text line ≡ genlist_text text
+pub list_input : (text front : List ℕ) (r : Result Sizes UnreadLine) (unread : UnreadLine) → front ≡ take 262144 text → r ≡ reading_of (outcome front) → r ≡ Err unread
+    → input_text unread.line ≡ genlist_text text
 unfolding genlist_text
-list_input text front r line h e f = input_text_lem text (read_of rooms (take 262144 text)) r line (e ∙ ap reading_of (read_rooms text front h)) f
+list_input text front r unread h e f = input_text_lem text (read_of rooms (take 262144 text)) r unread (e ∙ ap reading_of (read_rooms text front h)) f
 
-pub list_long : (text front : List ℕ) (r : Reading) (n : Sizes) (line : ℕ) → front ≡ take 262144 text → r ≡ reading_of (outcome front) → r ≡ reading.Tables n
+pub list_long : (text front : List ℕ) (r : Result Sizes UnreadLine) (n : Sizes) (line : ℕ) → front ≡ take 262144 text → r ≡ reading_of (outcome front) → r ≡ Ok n
     → 262144 ≤ length text → line ≡ feeds (take 262143 text) + 1 → input_text line ≡ genlist_text text
 unfolding genlist_text
 list_long text front r n line h e f k l = ap input_text l ∙ long_text text (read_of rooms (take 262144 text)) r n (e ∙ ap reading_of (read_rooms text front h)) f k
 
-pub list_tables : (text front : List ℕ) (r : Reading) (n : Sizes) (a b c d e f g : List ℕ) → front ≡ take 262144 text → r ≡ reading_of (outcome front)
-    → Holds (outcome front) a b c d e f g → r ≡ reading.Tables n → length text < 262144 → call_text (sized n a b c d e f g) ≡ genlist_text text
+pub list_tables : (text front : List ℕ) (r : Result Sizes UnreadLine) (n : Sizes) (a b c d e f g : List ℕ) → front ≡ take 262144 text → r ≡ reading_of (outcome front)
+    → Holds (outcome front) (given a b c d e f g) → r ≡ Ok n → length text < 262144 → call_text (sized n a b c d e f g) ≡ genlist_text text
 unfolding genlist_text
 list_tables text front r n a b c d e f g h p q s k =
     let o = read_rooms text front h in
-    tables_text text (read_of rooms (take 262144 text)) r n a b c d e f g (p ∙ ap reading_of o) s (subst (λ (x : Outcome). Holds x a b c d e f g) o q) k
+    tables_text text (read_of rooms (take 262144 text)) r n a b c d e f g (p ∙ ap reading_of o) s (subst (λ (x : Outcome). Holds x (given a b c d e f g)) o q) k

@@ -1,23 +1,11 @@
-// The front of lent words and bytes, and the lines in it.
+// The front of what was lent, and the lines in it.
 ghost use Rattle.std.specs.Prelude.{◌≡◌, ◌+◌, take};
 ghost use Rattle.lister.specs.Genlist.{feed as feed_of, feeds as feeds_of};
 
-pub fn front(words: &[u32], count: usize) -> &[u32]
-    ensures { result.now ≡ take count words.now }
+pub fn front<T>(items: &[T], count: usize) -> &[T]
+    ensures { result.now ≡ take count items.now }
 {
-    if count < words.len() {
-        return &words[..count];
-    }
-    words
-}
-
-pub fn front_bytes(bytes: &[u8], count: usize) -> &[u8]
-    ensures { result.now ≡ take count bytes.now }
-{
-    if count < bytes.len() {
-        return &bytes[..count];
-    }
-    bytes
+    &items[..count.min(items.len())]
 }
 
 // 1 for the end of a line.
@@ -32,10 +20,8 @@ pub fn feeds(bytes: &[u8]) -> usize
     ensures { result ≡ feeds_of bytes.now }
 {
     let mut count: usize = 0;
-    let mut i: usize = 0;
-    while i < bytes.len() {
-        count += feed(bytes[i]);
-        i += 1;
+    for b in bytes {
+        count += feed(*b);
     }
     count
 }
@@ -44,5 +30,5 @@ pub fn feeds(bytes: &[u8]) -> usize
 pub fn overlong(text: &[u8]) -> usize
     ensures { result ≡ feeds_of (take 262143 text.now) + 1 }
 {
-    feeds(front_bytes(text, 262143)) + 1
+    feeds(front(text, 262143)) + 1
 }

@@ -3,14 +3,16 @@ use mathlib.Core.Bool.{Bool}
 use mathlib.Core.List.{List, [], ◌∷◌, ◌++◌}
 use mathlib.Core.Path.{◌≡◌, sym, ap, subst, ◌∙◌}
 use Prim.Native.Nat.{ℕ, zero, suc, ◌+◌, ◌-◌, ◌*◌, ◌≤◌, ◌<◌, ◌/◌, ◌%◌, ◌^◌}
-use native.Mathlib.Nat.{not-suc-le-zero, pow-suc, lt_of_mul-lt-mul_right}
+use native.Mathlib.Nat.{not-suc-le-zero, pow-suc}
 use native.Mathlib.Omega.{arith}
 use native.Mathlib.Numerals.{sub-one}
 use lib.Dec.{T, eqb, eqb→eq}
 use lib.ListN.{length, get_or}
 use Rattle.opcode.proofs.Table.{every, at}
-use Rattle.listing.specs.Print.{Wrote, wrote, digits, digit, decimal, Powers, Wide, Leads}
-use Rattle.listing.proofs.PrintLaws.{Rest, rest_all, rest_same, rest_after, rest_none, digits_one, digits_more}
+use Rattle.listing.specs.declared.text.Writer.{Writer}
+use Rattle.listing.specs.Print.{after, digits, digit, decimal, Powers, Wide, Leads}
+use Rattle.listing.proofs.WriterLaws.{left_next, left_none}
+use Rattle.listing.proofs.PrintLaws.{digits_one, digits_more}
 
 -- the rule of an entry, as a test
 abbrev right : ℕ → ℕ → Bool
@@ -69,43 +71,25 @@ pub decimal_one : (n : ℕ) → n < 10 → (48 + n) ∷ [] ≡ decimal n
 decimal_one n h = let e : 48 + n ≡ digit n = omega arith in ap (λ (b : ℕ). b ∷ []) e ∙ digits_one 20 n (omega arith) h
 
 -- nothing is written yet
-pub long_start : {out : List ℕ} {at : ℕ} (n w : ℕ) → Wide n w → Rest (padded w n) out at (wrote (decimal n) out at)
-long_start n zero h = absurd (not-suc-le-zero h.some)
-long_start n (suc k) h =
+pub long_start : (n w : ℕ) (u : Writer) → Wide n w → after (decimal n) u ≡ after (padded w n) u
+long_start n zero u h = absurd (not-suc-le-zero h.some)
+long_start n (suc k) u h =
     let s : suc k - 1 ≡ k = omega arith in
     let f : 0 < k → 10 ^ k ≤ n = λ (z : 0 < k). subst (λ (j : ℕ). 10 ^ j ≤ n) s (h.first (omega arith)) in
     let m : k ≤ 19 = omega (arith, h.most) in
-    rest_same (sym (padded_all 19 k n m h.below f)) rest_all
+    ap (λ (ts : List ℕ). after ts u) (sym (padded_all 19 k n m h.below f))
 
 -- the first digit is written
-pub long_next : {whole : List ℕ × ℕ} {out new : List ℕ} {at to : ℕ} (i n p d r : ℕ) → 0 < i → p ≡ 10 ^ (i - 1) → Leads n p d r
-    → Rest (padded i n) out at whole → Wrote ((48 + d) ∷ []) out at new to → Rest (padded (i - 1) r) new to whole
-long_next i n p d r h q l k w =
+pub long_next : {v : Writer} (ts : List ℕ) (i n p d r : ℕ) (u w : Writer) → 0 < i → p ≡ 10 ^ (i - 1) → Leads n p d r
+    → after ts w ≡ after (padded i n) u → v ≡ after ((48 + d) ∷ []) u → after ts w ≡ after (padded (i - 1) r) v
+long_next ts i n p d r u w z q l k h =
     let s : i ≡ suc (i - 1) = omega arith in
     let f = ap (λ (x : ℕ). d * x + r) (sym q) ∙ l.sum in
-    rest_after
-    (rest_same (ap (λ (j : ℕ). padded j n) s ∙ ap (λ (x : ℕ). padded (suc (i - 1)) x) (sym f) ∙ padded_first (i - 1) d r l.one (omega (arith, l.less))) k)
-    w
+    left_next ts ((48 + d) ∷ []) (padded (i - 1) r) u w
+    (k ∙ ap (λ (t : List ℕ). after t u)
+    (ap (λ (j : ℕ). padded j n) s ∙ ap (λ (x : ℕ). padded (suc (i - 1)) x) (sym f) ∙ padded_first (i - 1) d r l.one (omega (arith, l.less)))) h
 
 -- all digits are written
-pub long_done : {text out new : List ℕ} {at to : ℕ} (i n : ℕ) → i ≤ 0 → Rest (padded i n) new to (wrote text out at) → Wrote text out at new to
+pub long_done : {u : Writer} (ts : List ℕ) (i n : ℕ) (w : Writer) → i ≤ 0 → after ts w ≡ after (padded i n) u → u ≡ after ts w
 unfolding padded
-long_done i n h r = let e : i ≡ 0 = omega arith in rest_none (rest_same (ap (λ (j : ℕ). padded j n) e) r)
-
--- the power before is a tenth
-pub power_before : (i n p : ℕ) → 0 < i → n < 10 ^ i → p ≡ 10 ^ (i - 1) → n < 10 * p
-power_before i n p h l e =
-    let s : i ≡ suc (i - 1) = omega arith in
-    let m : n < 10 ^ (i - 1) * 10 = subst (λ (x : ℕ). n < x) (ap (λ (j : ℕ). 10 ^ j) s ∙ pow-suc 10 (i - 1)) l in
-    omega arith
-
-pub wide_more : (n w : ℕ) → 10 ^ w ≤ n → 10 ^ (w + 1 - 1) ≤ n
-wide_more n w h = let s : w ≡ w + 1 - 1 = omega arith in subst (λ (j : ℕ). 10 ^ j ≤ n) s h
-
--- twenty digits hold 64 bits
-pub wide_most : (n w : ℕ) → w ≡ 20 → n < 18446744073709551616 → n < 10 ^ w
-wide_most n w e h = let l : n < 10 ^ 20 = omega arith in subst (λ (j : ℕ). n < 10 ^ j) (sym e) l
-
--- a digit is below ten, as the number is below ten powers
-pub digit_small : (d p r n : ℕ) → d * p + r ≡ n → n < 10 * p → d < 10
-digit_small d p r n e h = lt_of_mul-lt-mul_right p (omega arith)
+long_done {u} ts i n w h r = let e : i ≡ 0 = omega arith in left_none ts w (r ∙ ap (λ (j : ℕ). after (padded j n) u) e)

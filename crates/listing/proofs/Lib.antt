@@ -1,10 +1,9 @@
 pub mod ReadLaws
-pub mod TextLaws
 pub mod LinesLaws
-pub mod PlacesLaws
 pub mod RowsLaws
 pub mod StringsLaws
 pub mod ReadingLaws
+pub mod WriterLaws
 pub mod PrintLaws
 pub mod DecimalLaws
 pub mod PrintedLaws

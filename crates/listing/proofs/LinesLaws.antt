@@ -1,17 +1,10 @@
--- Laws of a text's lines: the lines from a place on, and the place after a line.
-use mathlib.Core.Path.{◌≡◌, refl, ap, ◌∙◌}
-use mathlib.Core.Bool.{Bool, true, false, cond, not}
-use mathlib.Core.List.{List, [], ◌∷◌}
-use Prim.Native.Nat.{ℕ, suc, ◌+◌, ◌≤◌, ◌<◌}
-use native.Mathlib.Omega.{arith}
-use lib.ListN.{length, take, drop, length-take, length-drop, drop_of_length-le}
+-- Laws of a text's lines: the first line and those after it, and the blank lines at the end.
+use Rattle.std.proofs.Common.{◌≡◌, refl, sym, ap, ◌∙◌, Bool, true, false, cond, not, List, [], ◌∷◌, ℕ, suc, ◌+◌, ◌≤◌, ◌<◌, length, take, drop, arith}
+use lib.ListN.{length-drop}
 use lib.Seq.{drop-drop}
-use lib.Dec.{ltb, eqb}
-use borrow.Author.Tests.{ltb-false}
-use Rattle.listing.specs.Read.{run, in_line}
-use Rattle.listing.specs.Text.{lines_of, onto}
-use Rattle.listing.specs.Places.{counted, line_end, line_at}
-use Rattle.listing.proofs.ReadLaws.{run_le, end_le}
+use lib.Dec.{eqb}
+use Rattle.listing.specs.Lines.{run, is_feed, in_line, lines_of, onto, Took, Over}
+use Rattle.listing.specs.Text.{Tables, tables, input, ended}
 
 -- a text that is not empty is its first line and the lines after it
 lines_cons : (l : List ℕ) → 0 < length l → lines_of l ≡ take (run in_line l) l ∷ lines_of (drop (suc (run in_line l)) l)
@@ -33,36 +26,45 @@ lines_cons (b ∷ c ∷ cs) h = two (eqb b 10) (lines_cons (c ∷ cs) (omega ari
     two true e = refl
     two false e = ap (onto b) e
 
-pub lines_over : (text : List ℕ) (at : ℕ) → length text ≤ at → lines_of (drop at text) ≡ []
-lines_over text at h = ap lines_of (drop_of_length-le text h)
+pub took : (text line rest : List ℕ) (number n : ℕ) → 0 < length text → n ≡ run in_line text → line ≡ take n text → rest ≡ drop 1 (drop n text)
+    → Took text number line rest (number + 1)
+took text line rest number n h r l e =
+    let step : n + 1 ≡ suc n = omega arith in
+    let s : rest ≡ drop (suc n) text = e ∙ drop-drop 1 n text ∙ ap (λ (i : ℕ). drop i text) step in
+    let t : rest ≡ drop (suc (run in_line text)) text = s ∙ ap (λ (i : ℕ). drop (suc i) text) r in record {
+      lines = lines_cons text h ∙ ap (λ (i : ℕ). take i text ∷ lines_of (drop (suc (run in_line text)) text)) (sym r)
+          ∙ ap (λ (x : List ℕ). x ∷ lines_of (drop (suc (run in_line text)) text)) (sym l) ∙ ap (λ (x : List ℕ). line ∷ lines_of x) (sym t);
+      counted = refl;
+      shorter = omega (arith, ap length s, length-drop (suc n) text);
+    }
 
--- from a place inside the text on: the line there, and the lines after it
-pub lines_at : (text : List ℕ) (at : ℕ) → at < length text → lines_of (drop at text) ≡ line_at text at ∷ lines_of (drop (line_end text at + 1) text)
-lines_at text at h =
-    let e : at + suc (run in_line (drop at text)) ≡ line_end text at + 1 = omega arith in
-    lines_cons (drop at text) (omega (arith, length-drop at text))
-    ∙ ap (λ (l : List ℕ). line_at text at ∷ lines_of l)
-    (drop-drop (suc (run in_line (drop at text))) at text ∙ ap (λ (n : ℕ). drop n text) e)
+pub over : (text : List ℕ) (number : ℕ) → length text ≡ 0 → Over text number text number
+over [] number h = record { lines = refl; none = refl; counted = refl }
+over (b ∷ bs) number h = absurd (omega arith)
 
--- a line's length is that of its run
-pub line_length : (text : List ℕ) (at : ℕ) → length (line_at text at) ≡ run in_line (drop at text)
-line_length text at = omega (arith, length-take (run in_line (drop at text)) (drop at text), run_le in_line (drop at text))
-
-pub counted_above : (n : ℕ) → n ≤ counted n
-counted_above n = picked (ltb n 18446744073709551615)
+-- a text of line feeds alone ends well
+pub all_blank : (t : Tables) (l : List ℕ) (n : ℕ) → length l ≤ run is_feed l → ended t (lines_of l) n ≡ tables t
+all_blank t [] n h = refl
+all_blank t (b ∷ bs) n h = by_byte (λ k. all_blank t bs (n + 1) k) (eqb b 10) h
   where
-    picked : (t : Bool) → n ≤ cond t (n + 1) n
-    picked true = omega arith
-    picked false = omega arith
+    by_byte : (length bs ≤ run is_feed bs → ended t (lines_of bs) (n + 1) ≡ tables t) → (s : Bool) → suc (length bs) ≤ cond s (suc (run is_feed bs)) 0 → ended t (cond s ([] ∷ lines_of bs) (onto b (lines_of bs))) n ≡ tables t
+    by_byte more true k = more (omega arith)
+    by_byte more false k = absurd (omega arith)
 
--- no number of a line or a place in a slice is as great as 64 bits hold
-pub counted_small : (n : ℕ) → n < 18446744073709551615 → counted n ≡ n + 1
-counted_small n h = picked (ltb n 18446744073709551615) refl
+ended_line : (t : Tables) (b n : ℕ) (ls : List (List ℕ)) → ended t (onto b ls) n ≡ input n
+ended_line t b n [] = refl
+ended_line t b n (l ∷ ls) = refl
+
+-- and another line after so many blank ones can't be read
+pub not_blank : (t : Tables) (l : List ℕ) (n : ℕ) → run is_feed l < length l → ended t (lines_of l) n ≡ input (n + run is_feed l)
+not_blank t [] n h = absurd (omega arith)
+not_blank t (b ∷ bs) n h = by_byte (λ k. not_blank t bs (n + 1) k) (eqb b 10) h
   where
-    picked : (t : Bool) → ltb n 18446744073709551615 ≡ t → cond t (n + 1) n ≡ n + 1
-    picked true e = refl
-    picked false e = absurd (omega (arith, ltb-false n 18446744073709551615 e))
-
--- a line inside the text ends inside it
-pub end_small : (text : List ℕ) (at : ℕ) → at < length text → length text < 9223372036854775808 → line_end text at < 18446744073709551615
-end_small text at h s = omega (arith, end_le in_line text at (omega arith))
+    by_byte : (run is_feed bs < length bs → ended t (lines_of bs) (n + 1) ≡ input (n + 1 + run is_feed bs)) → (s : Bool) → cond s (suc (run is_feed bs)) 0 < suc (length bs)
+        → ended t (cond s ([] ∷ lines_of bs) (onto b (lines_of bs))) n ≡ input (n + cond s (suc (run is_feed bs)) 0)
+    by_byte more true k =
+        let e : n + 1 + run is_feed bs ≡ n + suc (run is_feed bs) = omega arith in
+        more (omega arith) ∙ ap input e
+    by_byte more false k =
+        let e : n ≡ n + 0 = omega arith in
+        ended_line t b n (lines_of bs) ∙ ap input e

@@ -2,24 +2,20 @@
 use mathlib.Core.Path.{◌≡◌, refl, sym, ap, subst, ◌∙◌}
 use mathlib.Core.Bool.{Bool, true, false, cond, ◌&&◌}
 use mathlib.Core.List.{List, [], ◌∷◌, ◌++◌}
-use mathlib.Core.Option.{some}
+use Rattle.std.proofs.Common.{Option, Some}
 use Prim.Native.Nat.{ℕ, zero, suc, ◌+◌, ◌/◌, ◌%◌, ◌^◌, ◌≤◌, ◌<◌}
 use native.Mathlib.Omega.{arith}
 use lib.ListN.{length, take, drop, length-append}
 use lib.Seq.{take-append_seam, drop-append_seam}
 use lib.Dec.{leb, ltb, eqb, lit≤}
-use borrow.Author.Tests.{le-leb, lt-leb, ne_eqb, ltb-true, ltb-false}
-use Rattle.listing.specs.declared.read.Number.{Number}
-use Rattle.listing.specs.declared.read.Number.TheVariants.{Value}
-use Rattle.listing.specs.declared.read.Octet.{Octet}
-use Rattle.listing.specs.declared.read.Octet.TheVariants.{Byte}
-use Rattle.listing.specs.Read.{is_digit, all_digits, value_of, decimal_of, nibble_of, pair_of, run, is_space, put, field, values_from, values_of}
-use Rattle.listing.specs.Read.{put_byte, pairs_of, is_dash, string_of}
-use Rattle.listing.specs.Text.{lines_of, onto}
+use borrow.Author.Tests.{le-leb, leb-true, eq-eqb, ne_eqb, ltb-true, ltb-false}
+use Rattle.listing.specs.Lines.{run, lines_of, onto}
+use Rattle.listing.specs.Read.{is_digit, all_digits, value_of, decimal_of, nibble_of, byte_of, pair_of, is_space, gap, put, field, values_from, values_of}
+use Rattle.listing.specs.Read.{pairs_of, is_dash, string_of}
 use Rattle.listing.specs.Print.{digit, digits, decimal, hex_digit, hex_digits}
 use Rattle.listing.specs.Printed.{text_of, spaced, values_text, hex_text, string_text, Below}
-use Rattle.listing.proofs.ReadLaws.{decimal_value, digit_low, gap_none, gap_some, nibble_digit, nibble_lower, pair_good}
-use Rattle.listing.proofs.TextLaws.{string_dash, string_pairs}
+use Rattle.std.proofs.lemmas.Bool.Decides.{nat_tests}
+use Rattle.listing.proofs.ReadLaws.{decimal_value, string_dash, string_pairs}
 use Rattle.listing.proofs.PrintLaws.{digits_value}
 
 -- no byte of a line is a line feed
@@ -58,6 +54,17 @@ second_of true t e = e
 second_of false true e = refl
 second_of false false e = e
 
+digit_low : (b : ℕ) → is_digit b ≡ true → 48 ≤ b
+digit_low b e = leb-true 48 b (first_of (leb 48 b) (leb b 57) e)
+
+gap_none : (k : ℕ) (l : List ℕ) → k ≡ 0 → gap k l ≡ 0
+unfolding gap
+gap_none k l e = ap (λ (t : Bool). cond t 0 (run is_space l)) (eq-eqb k 0 e)
+
+gap_some : (k : ℕ) (l : List ℕ) → (k ≡ 0 → ⊥) → gap k l ≡ run is_space l
+unfolding gap
+gap_some k l e = ap (λ (t : Bool). cond t 0 (run is_space l)) (ne_eqb k 0 e)
+
 is_digit_lem : (b : ℕ) → 48 ≤ b → b ≤ 57 → is_digit b ≡ true
 is_digit_lem b h k = both (leb 48 b) (leb b 57) (le-leb 48 b h) (le-leb b 57 k)
 
@@ -87,7 +94,7 @@ digits_some k n = omega (arith, length-append (cond (ltb n 10) [] (digits k (n /
 decimal_some : (n : ℕ) → 0 < length (decimal n)
 decimal_some n = digits_some 19 n
 
-decimal_read : (v : ℕ) → v < 4294967296 → decimal_of (decimal v) ≡ Value v
+decimal_read : (v : ℕ) → v < 4294967296 → decimal_of (decimal v) ≡ Some v
 unfolding value_of
 decimal_read v h =
     let big : 4294967296 ≤ 10 ^ 20 = lit≤ tt in
@@ -112,19 +119,19 @@ no_digit [] = refl
 no_digit (v ∷ vs) = refl
 
 -- one value of a line, from its digits on
-value_read : (k m v : ℕ) (tail vs : List ℕ) → v < 4294967296 → run is_digit tail ≡ 0 → values_from (k + 1) m tail ≡ some vs
+value_read : (k m v : ℕ) (tail vs : List ℕ) → v < 4294967296 → run is_digit tail ≡ 0 → values_from (k + 1) m tail ≡ Some vs
     → put (decimal_of (take (run is_digit (decimal v ++ tail)) (decimal v ++ tail)))
     (values_from (k + 1) m (drop (run is_digit (decimal v ++ tail)) (decimal v ++ tail)))
-    ≡ some (v ∷ vs)
+    ≡ Some (v ∷ vs)
 value_read k m v tail vs h e r =
     ap (λ (n : ℕ). put (decimal_of (take n (decimal v ++ tail))) (values_from (k + 1) m (drop n (decimal v ++ tail))))
     (run_digits (decimal v) tail (all_digits_lem 20 v) e)
     ∙ ap (λ (l : List ℕ). put (decimal_of l) (values_from (k + 1) m (drop (length (decimal v)) (decimal v ++ tail)))) (take-append_seam (decimal v) tail)
     ∙ ap (λ (l : List ℕ). put (decimal_of (decimal v)) (values_from (k + 1) m l)) (drop-append_seam (decimal v) tail)
-    ∙ ap (λ (n : Number). put n (values_from (k + 1) m tail)) (decimal_read v h)
-    ∙ ap (put (Value v)) r
+    ∙ ap (λ (n : Option ℕ). put n (values_from (k + 1) m tail)) (decimal_read v h)
+    ∙ ap (put (Some v)) r
 
-later_read : (k : ℕ) (vs : List ℕ) → Below 4294967296 vs → values_from (k + 1) (length vs) (spaced vs) ≡ some vs
+later_read : (k : ℕ) (vs : List ℕ) → Below 4294967296 vs → values_from (k + 1) (length vs) (spaced vs) ≡ Some vs
 later_read k [] p = refl
 later_read k (v ∷ vs) p =
     ap (λ (l : List ℕ). put (decimal_of (take (run is_digit l) l)) (values_from (k + 1 + 1) (length vs) (drop (run is_digit l) l))) after_space
@@ -136,7 +143,7 @@ later_read k (v ∷ vs) p =
         (gap_some (k + 1) (spaced (v ∷ vs)) (λ e. omega arith) ∙ ap suc (run_spaces (decimal v) (spaced vs) (all_digits_lem 20 v) (decimal_some v)))
 
 -- a printed line of values reads as its values
-pub values_read : (vs : List ℕ) → Below 4294967296 vs → values_of (length vs) (values_text vs) ≡ some vs
+pub values_read : (vs : List ℕ) → Below 4294967296 vs → values_of (length vs) (values_text vs) ≡ Some vs
 unfolding values_of
 values_read [] p = refl
 values_read (v ∷ vs) p =
@@ -163,39 +170,31 @@ pub values_plain : (vs : List ℕ) → Plain (values_text vs)
 values_plain [] = tt
 values_plain (v ∷ vs) = plain_append (decimal v) (spaced vs) (digits_plain (decimal v) (all_digits_lem 20 v)) (spaced_plain vs)
 
-not_digit : (b : ℕ) → 57 < b → is_digit b ≡ false
-not_digit b h = ap (λ (t : Bool). t && leb b 57) (le-leb 48 b (omega arith)) ∙ lt-leb b 57 h
-
-nibble_read : (n : ℕ) → nibble_of (hex_digit n) ≡ n % 16
+nibble_read : (n : ℕ) → nibble_of (hex_digit n) ≡ Some (n % 16)
+unfolding nibble_of
 nibble_read n = picked (ltb (n % 16) 10) refl
   where
-    picked : (t : Bool) → ltb (n % 16) 10 ≡ t → nibble_of (cond t (48 + n % 16) (87 + n % 16)) ≡ n % 16
-    picked true e =
-        let h = ltb-true (n % 16) 10 e in
-        sym (nibble_digit (48 + n % 16) (is_digit_lem (48 + n % 16) (omega arith) (omega arith))) ∙ omega arith
-    picked false e =
-        let h = ltb-false (n % 16) 10 e in
-        sym (nibble_lower (87 + n % 16) (not_digit (87 + n % 16) (omega arith)) (omega arith) (omega arith)) ∙ omega arith
+    picked : (t : Bool) → ltb (n % 16) 10 ≡ t → nibble_of (cond t (48 + n % 16) (87 + n % 16)) ≡ Some (n % 16)
+    picked true e = let h = ltb-true (n % 16) 10 e in grind (arith, nat_tests)
+    picked false e = let h = ltb-false (n % 16) 10 e in grind (arith, nat_tests)
 
-pair_read : (b : ℕ) → b < 256 → pair_of (hex_digit (b / 16)) (hex_digit b) ≡ Byte b
-pair_read b h =
-    let x = nibble_read (b / 16) in
-    let y = nibble_read b in
-    sym (pair_good (hex_digit (b / 16)) (hex_digit b) (omega arith) (omega arith)) ∙ ap Byte (omega arith)
+pair_read : (b : ℕ) → b < 256 → pair_of (hex_digit (b / 16)) (hex_digit b) ≡ Some b
+unfolding pair_of
+pair_read b h = ap (λ (o : Option ℕ). byte_of o (nibble_of (hex_digit b))) (nibble_read (b / 16)) ∙ ap (byte_of (Some (b / 16 % 16))) (nibble_read b) ∙ ap Some (omega arith)
 
 hex_two : (b : ℕ) → hex_digits 2 b ≡ hex_digit (b / 16) ∷ hex_digit b ∷ []
 unfolding hex_digits
 hex_two b = refl
 
-pairs_read : (bs : List ℕ) → Below 256 bs → pairs_of (hex_text bs) ≡ some bs
+pairs_read : (bs : List ℕ) → Below 256 bs → pairs_of (hex_text bs) ≡ Some bs
 pairs_read [] p = refl
 pairs_read (b ∷ bs) p =
     ap (λ (l : List ℕ). pairs_of (l ++ hex_text bs)) (hex_two b)
-    ∙ ap (λ (o : Octet). put_byte o (pairs_of (hex_text bs))) (pair_read b p.0)
-    ∙ ap (put_byte (Byte b)) (pairs_read bs p.1)
+    ∙ ap (λ (o : Option ℕ). put o (pairs_of (hex_text bs))) (pair_read b p.0)
+    ∙ ap (put (Some b)) (pairs_read bs p.1)
 
 -- a printed string reads as its bytes
-pub string_read : (bs : List ℕ) → Below 256 bs → string_of (string_text bs) ≡ some bs
+pub string_read : (bs : List ℕ) → Below 256 bs → string_of (string_text bs) ≡ Some bs
 string_read [] p = string_dash (45 ∷ []) refl
 string_read (b ∷ bs) p =
     sym (string_pairs (hex_text (b ∷ bs)) (ap (λ (l : List ℕ). is_dash (l ++ hex_text bs)) (hex_two b))) ∙ pairs_read (b ∷ bs) p

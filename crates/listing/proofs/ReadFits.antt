@@ -2,24 +2,22 @@
 use mathlib.Core.Path.{◌≡◌, refl, sym, ap, subst, ◌∙◌}
 use mathlib.Core.Bool.{Bool, true, false, cond, ◌&&◌, ◌||◌}
 use mathlib.Core.List.{List, [], ◌∷◌, ◌++◌}
-use mathlib.Core.Option.{Option, none, some}
+use Rattle.std.proofs.Common.{Option, Some, None}
 use Prim.Native.Nat.{ℕ, zero, suc, ◌+◌, ◌*◌, ◌/◌, ◌≤◌, ◌<◌}
 use native.Mathlib.Nat.{suc-mul, mul-le-mul_right, mul-div_cancel}
 use native.Mathlib.Omega.{arith}
 use lib.ListN.{length, length-append}
 use lib.Dec.{leb, ltb}
-use borrow.Author.Tests.{leb-true, leb-false, ltb-true, ltb-false}
-use Rattle.listing.specs.declared.read.Number.{Number}
-use Rattle.listing.specs.declared.read.Number.TheVariants.{Value, Malformed}
-use Rattle.listing.specs.declared.read.Octet.{Octet}
-use Rattle.listing.specs.declared.read.Octet.TheVariants.{Byte, Broken}
-use Rattle.listing.specs.Read.{all_digits, some_bytes, value_of, decimal_of, nibble_of, pair_of, put, when_over, values_from, values_of}
-use Rattle.listing.specs.Read.{put_byte, pairs_of, is_dash, string_of}
-use Rattle.listing.specs.Text.{lines_of, Tables, Rooms, Outcome, tables, Block, got, stop, before, onward_text, before_text, after, ended}
+use borrow.Author.Tests.{leb-true, leb-false, ltb-false}
+use Rattle.std.proofs.lemmas.Bool.Decides.{nat_tests}
+use Rattle.listing.specs.Lines.{lines_of}
+use Rattle.listing.specs.Read.{all_digits, some_bytes, value_of, decimal_of, nibble_of, byte_of, pair_of, put, when_over, values_from, values_of}
+use Rattle.listing.specs.Read.{pairs_of, is_dash, string_of}
+use Rattle.listing.specs.Text.{Tables, Rooms, Outcome, tables, Block, got, stop, before, onward_text, before_text, after, ended}
 use Rattle.listing.specs.Text.{rows_of, table_of, strings_of, string_table, read_of}
 use Rattle.listing.specs.Printed.{Below, Running, Entries, Fits, tables_text}
 use Rattle.listing.proofs.RoundTrip.{round_trip}
-use Rattle.listing.proofs.PrintedLaws.{first_of, second_of}
+use Rattle.listing.proofs.PrintedLaws.{second_of}
 use Rattle.listing.proofs.ReadingLaws.{then1, then3, then4, then5, then6, then7}
 
 below_append : (bound : ℕ) (xs ys : List ℕ) → Below bound xs → Below bound ys → Below bound (xs ++ ys)
@@ -27,36 +25,36 @@ below_append bound [] ys p q = q
 below_append bound (x ∷ xs) ys p q = (p.0, below_append bound xs ys p.1 q)
 
 -- a number that is read has 32 bits
-decimal_below : (l : List ℕ) (v : ℕ) → decimal_of l ≡ Value v → v < 4294967296
+decimal_below : (l : List ℕ) (v : ℕ) → decimal_of l ≡ Some v → v < 4294967296
 unfolding decimal_of
 decimal_below l v e = picked (some_bytes l && (all_digits l && leb (value_of l) 4294967295)) refl e
   where
-    picked : (c : Bool) → some_bytes l && (all_digits l && leb (value_of l) 4294967295) ≡ c → cond c (Value (value_of l)) Malformed ≡ Value v → v < 4294967296
+    picked : (c : Bool) → some_bytes l && (all_digits l && leb (value_of l) 4294967295) ≡ c → cond c (Some (value_of l)) None ≡ Some v → v < 4294967296
     picked true p q =
         let h = leb-true (value_of l) 4294967295 (second_of (all_digits l) _ (second_of (some_bytes l) _ p)) in
         let s : value_of l ≡ v = cc in
         omega arith
-    picked false p q = let z : ◌≡◌ {A = ℕ} 0 1 = cc in absurd (omega arith)
+    picked false p q = cc
 
 -- a value and those that follow
-record Put (n : Number) (o : Option (List ℕ)) (vs : List ℕ) : Type 0 where
+record Put (n : Option ℕ) (o : Option (List ℕ)) (vs : List ℕ) : Type 0 where
   pub value : ℕ
   pub others : List ℕ
-  pub number : n ≡ Value value
-  pub follow : o ≡ some others
+  pub number : n ≡ Some value
+  pub follow : o ≡ Some others
   pub all : vs ≡ value ∷ others
 
-put_some : (n : Number) (o : Option (List ℕ)) (vs : List ℕ) → put n o ≡ some vs → Put n o vs
-put_some Malformed o vs e = let z : ◌≡◌ {A = ℕ} 0 1 = cc in absurd (omega arith)
-put_some (Value v) none vs e = let z : ◌≡◌ {A = ℕ} 0 1 = cc in absurd (omega arith)
-put_some (Value v) (some ws) vs e = record { value = v; others = ws; number = refl; follow = refl; all = cc }
+put_some : (n : Option ℕ) (o : Option (List ℕ)) (vs : List ℕ) → put n o ≡ Some vs → Put n o vs
+put_some None o vs e = cc
+put_some (Some v) None vs e = cc
+put_some (Some v) (Some ws) vs e = record { value = v; others = ws; number = refl; follow = refl; all = cc }
 
-over_some : (bs vs : List ℕ) → when_over bs ≡ some vs → vs ≡ []
+over_some : (bs vs : List ℕ) → when_over bs ≡ Some vs → vs ≡ []
 over_some [] vs e = cc
-over_some (b ∷ bs) vs e = let z : ◌≡◌ {A = ℕ} 0 1 = cc in absurd (omega arith)
+over_some (b ∷ bs) vs e = cc
 
 -- values of a line: so many, each of 32 bits
-values_fit : (n k : ℕ) (bs vs : List ℕ) → values_from k n bs ≡ some vs → (length vs ≡ n) × Below 4294967296 vs
+values_fit : (n k : ℕ) (bs vs : List ℕ) → values_from k n bs ≡ Some vs → (length vs ≡ n) × Below 4294967296 vs
 values_fit zero k bs vs e = subst (λ (xs : List ℕ). (length xs ≡ 0) × Below 4294967296 xs) (sym (over_some bs vs e)) (refl, tt)
 values_fit (suc n) k bs vs e =
     let p = put_some _ _ vs e in
@@ -64,7 +62,7 @@ values_fit (suc n) k bs vs e =
     subst (λ (xs : List ℕ). (length xs ≡ suc n) × Below 4294967296 xs) (sym p.all)
     (ap suc q.0, (decimal_below _ p.value p.number, q.1))
 
-line_fits : (count : ℕ) (l vs : List ℕ) → values_of count l ≡ some vs → (length vs ≡ count) × Below 4294967296 vs
+line_fits : (count : ℕ) (l vs : List ℕ) → values_of count l ≡ Some vs → (length vs ≡ count) × Below 4294967296 vs
 unfolding values_of
 line_fits count l vs e = values_fit count 0 l vs e
 
@@ -76,20 +74,20 @@ neither true true e = (e, e)
 -- lines that were read on were not stopped
 going : {A : Type 0} (c : Bool) (n : ℕ) (b : Block A) (x : A) (ls : List (List ℕ)) (m : ℕ) → cond c (stop n) b ≡ got x ls m
     → (c ≡ false) × (b ≡ got x ls m)
-going true n b x ls m e = let z : ◌≡◌ {A = ℕ} 0 1 = cc in absurd (omega arith)
+going true n b x ls m e = cc
 going false n b x ls m e = (refl, e)
 
 record Onward (o : Option (List ℕ)) (b : Block (List ℕ)) (ws : List ℕ) (ls : List (List ℕ)) (m : ℕ) : Type 0 where
   pub values : List ℕ
   pub others : List ℕ
-  pub line : o ≡ some values
+  pub line : o ≡ Some values
   pub follow : b ≡ got others ls m
   pub all : ws ≡ values ++ others
 
 before_got : (n : ℕ) (o : Option (List ℕ)) (b : Block (List ℕ)) (ws : List ℕ) (ls : List (List ℕ)) (m : ℕ) → before n o b ≡ got ws ls m → Onward o b ws ls m
-before_got n none b ws ls m e = let z : ◌≡◌ {A = ℕ} 0 1 = cc in absurd (omega arith)
-before_got n (some vs) (stop i) ws ls m e = let z : ◌≡◌ {A = ℕ} 0 1 = cc in absurd (omega arith)
-before_got n (some vs) (got us ks i) ws ls m e =
+before_got n None b ws ls m e = cc
+before_got n (Some vs) (stop i) ws ls m e = cc
+before_got n (Some vs) (got us ks i) ws ls m e =
     let p : vs ++ us ≡ ws = cc in
     let q : ks ≡ ls = cc in
     let s : i ≡ m = cc in
@@ -122,7 +120,7 @@ module _ (count room : ℕ) (last : Bool) (some-values : 0 < count) where
 
   ended_rows : (t : Bool) (n : ℕ) (ws : List ℕ) (ls : List (List ℕ)) (m : ℕ) → cond t (got [] [] n) (stop n) ≡ got ws ls m → ws ≡ []
   ended_rows true n ws ls m e = cc
-  ended_rows false n ws ls m e = let z : ◌≡◌ {A = ℕ} 0 1 = cc in absurd (omega arith)
+  ended_rows false n ws ls m e = cc
 
   rows_fit : (k : List (List ℕ)) (n j : ℕ) (ws : List ℕ) (ls : List (List ℕ)) (m : ℕ) → j ≤ 140 → j * count ≤ room
       → rows_of count (140 * count) room last n (j * count) k ≡ got ws ls m → Rowed count room j ws
@@ -149,7 +147,7 @@ module _ (count room : ℕ) (last : Bool) (some-values : 0 < count) where
 
   table_fits : (k : List (List ℕ)) (n most : ℕ) (ws : List ℕ) (ls : List (List ℕ)) (m : ℕ) → 140 * count ≡ most
       → table_of count most room last k n ≡ got ws ls m → Entries count most room ws
-  table_fits [] n most ws ls m z e = let z : ◌≡◌ {A = ℕ} 0 1 = cc in absurd (omega arith)
+  table_fits [] n most ws ls m z e = cc
   table_fits (l ∷ k) n most ws ls m z e =
       let none_before : 0 * count ≡ 0 = omega arith in
       let r = rows_fit k (n + 1) 0 ws ls m (omega arith) (omega arith)
@@ -161,37 +159,43 @@ module _ (count room : ℕ) (last : Bool) (some-values : 0 < count) where
         lent = omega (arith, r.lent);
       }
 
--- two digits that are read are a byte
-pair_below : (h l v : ℕ) → pair_of h l ≡ Byte v → v < 256
-unfolding pair_of
-pair_below h l v e = picked (ltb (nibble_of h) 16 && ltb (nibble_of l) 16) refl e
-  where
-    picked : (c : Bool) → ltb (nibble_of h) 16 && ltb (nibble_of l) 16 ≡ c → cond c (Byte (nibble_of h * 16 + nibble_of l)) Broken ≡ Byte v → v < 256
-    picked true p q =
-        let a = ltb-true (nibble_of h) 16 (first_of (ltb (nibble_of h) 16) _ p) in
-        let b = ltb-true (nibble_of l) 16 (second_of (ltb (nibble_of h) 16) _ p) in
-        let s : nibble_of h * 16 + nibble_of l ≡ v = cc in
-        omega arith
-    picked false p q = let z : ◌≡◌ {A = ℕ} 0 1 = cc in absurd (omega arith)
+-- a hexadecimal digit that is read is one of 16
+nibble_below : (b d : ℕ) → nibble_of b ≡ Some d → d < 16
+unfolding nibble_of
+nibble_below b d e = grind (arith, nat_tests)
 
-put_byte_below : (n : Octet) (o : Option (List ℕ)) (bs : List ℕ) → ((v : ℕ) → n ≡ Byte v → v < 256) → ((cs : List ℕ) → o ≡ some cs → Below 256 cs)
-    → put_byte n o ≡ some bs → Below 256 bs
-put_byte_below Broken o bs p q e = let z : ◌≡◌ {A = ℕ} 0 1 = cc in absurd (omega arith)
-put_byte_below (Byte v) none bs p q e = let z : ◌≡◌ {A = ℕ} 0 1 = cc in absurd (omega arith)
-put_byte_below (Byte v) (some cs) bs p q e =
+byte_below : (h l : Option ℕ) (v : ℕ) → ((d : ℕ) → h ≡ Some d → d < 16) → ((d : ℕ) → l ≡ Some d → d < 16) → byte_of h l ≡ Some v → v < 256
+byte_below None l v p q e = cc
+byte_below (Some h) None v p q e = cc
+byte_below (Some h) (Some l) v p q e =
+    let a = p h refl in
+    let b = q l refl in
+    let s : h * 16 + l ≡ v = cc in
+    omega arith
+
+-- two digits that are read are a byte
+pair_below : (h l v : ℕ) → pair_of h l ≡ Some v → v < 256
+unfolding pair_of
+pair_below h l v e = byte_below (nibble_of h) (nibble_of l) v (nibble_below h) (nibble_below l) e
+
+put_below : (n : Option ℕ) (o : Option (List ℕ)) (bs : List ℕ) → ((v : ℕ) → n ≡ Some v → v < 256) → ((cs : List ℕ) → o ≡ Some cs → Below 256 cs)
+    → put n o ≡ Some bs → Below 256 bs
+put_below None o bs p q e = cc
+put_below (Some v) None bs p q e = cc
+put_below (Some v) (Some cs) bs p q e =
     let s : v ∷ cs ≡ bs = cc in
     subst (λ (xs : List ℕ). Below 256 xs) s (p v refl, q cs refl)
 
-pairs_below : (l bs : List ℕ) → pairs_of l ≡ some bs → Below 256 bs
+pairs_below : (l bs : List ℕ) → pairs_of l ≡ Some bs → Below 256 bs
 pairs_below [] bs e = let s : [] ≡ bs = cc in subst (λ (xs : List ℕ). Below 256 xs) s tt
-pairs_below (h ∷ []) bs e = let z : ◌≡◌ {A = ℕ} 0 1 = cc in absurd (omega arith)
-pairs_below (h ∷ l ∷ ls) bs e = put_byte_below (pair_of h l) (pairs_of ls) bs (pair_below h l) (λ cs q. pairs_below ls cs q) e
+pairs_below (h ∷ []) bs e = cc
+pairs_below (h ∷ l ∷ ls) bs e = put_below (pair_of h l) (pairs_of ls) bs (pair_below h l) (λ cs q. pairs_below ls cs q) e
 
-string_below : (l bs : List ℕ) → string_of l ≡ some bs → Below 256 bs
+string_below : (l bs : List ℕ) → string_of l ≡ Some bs → Below 256 bs
 unfolding string_of
 string_below l bs e = picked (is_dash l) e
   where
-    picked : (c : Bool) → cond c (some []) (pairs_of l) ≡ some bs → Below 256 bs
+    picked : (c : Bool) → cond c (Some []) (pairs_of l) ≡ Some bs → Below 256 bs
     picked true q = let s : [] ≡ bs = cc in subst (λ (xs : List ℕ). Below 256 xs) s tt
     picked false q = pairs_below l bs q
 
@@ -199,7 +203,7 @@ record OnwardText (room held : ℕ) (o : Option (List ℕ)) (rest : ℕ → Bloc
   pub new : List ℕ
   pub words : List ℕ
   pub others : List ℕ
-  pub line : o ≡ some new
+  pub line : o ≡ Some new
   pub limit : held + length new ≤ 4096
   pub lent : held + length new ≤ room
   pub follow : rest (held + length new) ≡ got (words, others) ls m
@@ -208,8 +212,8 @@ record OnwardText (room held : ℕ) (o : Option (List ℕ)) (rest : ℕ → Bloc
 
 onward_text_lem : (room held : ℕ) (bs : List ℕ) (rest : ℕ → Block (List ℕ × List ℕ)) (b : Block (List ℕ × List ℕ)) → rest (held + length bs) ≡ b
     → held + length bs ≤ 4096 → held + length bs ≤ room → (x : List ℕ × List ℕ) (ls : List (List ℕ)) (m : ℕ)
-    → onward_text (held ∷ length bs ∷ []) bs b ≡ got x ls m → OnwardText room held (some bs) rest x ls m
-onward_text_lem room held bs rest (stop i) r h k x ls m e = let z : ◌≡◌ {A = ℕ} 0 1 = cc in absurd (omega arith)
+    → onward_text (held ∷ length bs ∷ []) bs b ≡ got x ls m → OnwardText room held (Some bs) rest x ls m
+onward_text_lem room held bs rest (stop i) r h k x ls m e = cc
 onward_text_lem room held bs rest (got y ks i) r h k x ls m e =
     let p : ◌≡◌ {A = List ℕ × List ℕ} (held ∷ length bs ∷ y.0, (bs ++ y.1)) x = cc in
     let q : ks ≡ ls = cc in
@@ -228,8 +232,8 @@ onward_text_lem room held bs rest (got y ks i) r h k x ls m e =
 
 before_text_lem : (n room held : ℕ) (o : Option (List ℕ)) (rest : ℕ → Block (List ℕ × List ℕ)) (x : List ℕ × List ℕ) (ls : List (List ℕ)) (m : ℕ)
     → before_text n room held o rest ≡ got x ls m → OnwardText room held o rest x ls m
-before_text_lem n room held none rest x ls m e = let z : ◌≡◌ {A = ℕ} 0 1 = cc in absurd (omega arith)
-before_text_lem n room held (some bs) rest x ls m e =
+before_text_lem n room held None rest x ls m e = cc
+before_text_lem n room held (Some bs) rest x ls m e =
     let p = going _ n _ x ls m e in
     let q = neither (ltb 4096 (held + length bs)) (ltb room (held + length bs)) p.0 in
     onward_text_lem room held bs rest (rest (held + length bs)) refl (ltb-false 4096 (held + length bs) q.0) (ltb-false room (held + length bs) q.1) x ls m
@@ -281,7 +285,7 @@ module _ (room1 room2 : ℕ) where
 
   strings_fit : (k : List (List ℕ)) (n j held : ℕ) (x : List ℕ × List ℕ) (ls : List (List ℕ)) (m : ℕ) → j ≤ 140 → j * 2 ≤ room1 → held ≤ 4096
       → held ≤ room2 → strings_of room1 room2 n (j * 2) held k ≡ got x ls m → Texts room1 room2 j held x
-  strings_fit [] n j held x ls m a b c d e = let z : ◌≡◌ {A = ℕ} 0 1 = cc in absurd (omega arith)
+  strings_fit [] n j held x ls m a b c d e = cc
   strings_fit ([] ∷ k) n j held x ls m a b c d e = no_strings j held x a b c d (let p : ◌≡◌ {A = List ℕ × List ℕ} ([], []) x = cc in sym p)
   strings_fit ((y ∷ ys) ∷ k) n j held x ls m a b c d e =
       let p = going _ n _ x ls m e in
@@ -296,7 +300,7 @@ module _ (room1 room2 : ℕ) where
 
   string_table_fits : (k : List (List ℕ)) (n : ℕ) (x : List ℕ × List ℕ) (ls : List (List ℕ)) (m : ℕ) → string_table room1 room2 k n ≡ got x ls m
       → Texts room1 room2 0 0 x
-  string_table_fits [] n x ls m e = let z : ◌≡◌ {A = ℕ} 0 1 = cc in absurd (omega arith)
+  string_table_fits [] n x ls m e = cc
   string_table_fits (l ∷ k) n x ls m e = strings_fit k (n + 1) 0 0 x ls m (omega arith) (omega arith) (omega arith) (omega arith) e
 
 -- a table after which reading went on
@@ -308,13 +312,13 @@ record Went {A : Type 0} (b : Block A) (f : A → List (List ℕ) → ℕ → Ou
   pub on : f value later number ≡ tables t
 
 went : {A : Type 0} (b : Block A) (f : A → List (List ℕ) → ℕ → Outcome) (t : Tables) → after b f ≡ tables t → Went b f t
-went (stop n) f t e = let z : ◌≡◌ {A = ℕ} 0 1 = cc in absurd (omega arith)
+went (stop n) f t e = cc
 went (got x ls n) f t e = record { value = x; later = ls; number = n; by = refl; on = e }
 
 ended_same : (u t : Tables) (ls : List (List ℕ)) (n : ℕ) → ended u ls n ≡ tables t → u ≡ t
 ended_same u t [] n e = cc
 ended_same u t ([] ∷ ls) n e = ended_same u t ls (n + 1) e
-ended_same u t ((b ∷ bs) ∷ ls) n e = let z : ◌≡◌ {A = ℕ} 0 1 = cc in absurd (omega arith)
+ended_same u t ((b ∷ bs) ∷ ls) n e = cc
 
 -- the tables that a text is read as fit
 pub read_fits : (r : Rooms) (text : List ℕ) (t : Tables) → read_of r text ≡ tables t → Fits r t

@@ -1,48 +1,21 @@
--- Laws of genlist's reader: a run from a place on, and decimal values digit by digit.
-use mathlib.Core.Path.{◌≡◌, refl, sym, ap, subst, ◌∙◌}
-use mathlib.Core.Bool.{Bool, true, false, cond, ◌&&◌}
-use mathlib.Core.List.{List, [], ◌∷◌, ◌++◌, append_assoc, append-nil}
-use mathlib.Core.Option.{Option, none, some}
-use Prim.Native.Nat.{ℕ, suc, ◌+◌, ◌*◌, ◌-◌, ◌≤◌, ◌<◌}
+-- Laws of genlist's reader: a run of bytes, decimal values digit by digit, and the values of a line.
+use Rattle.std.proofs.Common.{◌≡◌, refl, sym, ap, subst, ◌∙◌, Bool, true, false, cond, not, ◌&&◌, List, [], ◌∷◌, ◌++◌, append_assoc, Option, Some, None, ℕ, suc, ◌+◌, ◌*◌, ◌-◌, ◌≤◌, ◌<◌, length, take, drop, set, get_or, arith}
+use Rattle.std.specs.List.{position_or_len}
+use Rattle.std.proofs.lemmas.List.Recursion.{is_position_or_len}
+use mathlib.Core.List.{append-nil}
 use native.Mathlib.Numerals.{add-one}
-use native.Mathlib.Omega.{arith}
-use lib.ListN.{length, take, drop, set, get_or, drop_of_length-le, length-drop}
-use lib.Seq.{drop-cons, drop-drop, drop-set-add, take-suc-set, take-set-le}
-use lib.Dec.{leb, ltb, eqb}
-use borrow.Author.Tests.{le-leb, lt-leb, lt-ltb, le-ltb, leb-true, eq-eqb, ne_eqb, eqb-true, eqb-false}
-use Rattle.listing.specs.declared.read.Number.{Number}
-use Rattle.listing.specs.declared.read.Number.TheVariants.{Value, Malformed}
-use Rattle.listing.specs.declared.read.Octet.{Octet}
-use Rattle.listing.specs.declared.read.Octet.TheVariants.{Byte, Broken}
-use Rattle.listing.specs.Read.{is_digit, all_digits, value_from, value_of, some_bytes, decimal_of, upper_of, nibble_of}
-use Rattle.listing.specs.Read.{pair_of, run, is_space, gap, put, when_over, field, values_from}
+use lib.ListN.{drop_of_length-le, length-drop, length-take, length-append}
+use lib.Seq.{drop-cons, drop-drop, take-suc-set, take-length}
+use lib.Dec.{leb, eqb}
+use lib.Pointwise.{pointwise}
+use borrow.Author.Tests.{le-leb, lt-leb}
+use Rattle.listing.specs.Read.{is_digit, all_digits, value_from, value_of, some_bytes, decimal_of, pair_of}
+use Rattle.listing.specs.Lines.{run}
+use Rattle.listing.specs.Read.{is_space, gap, put, when_over, field, values_from, pairs_of, is_dash, string_of}
 
 -- a list from a place on is its element there and the list after it
 pub at_place : (l : List ℕ) (i : ℕ) → i < length l → drop i l ≡ get_or l i 0 ∷ drop (i + 1) l
 at_place l i h = drop-cons l i 0 h ∙ ap (λ (n : ℕ). get_or l i 0 ∷ drop n l) (sym (add-one i))
-
--- lists that agree from a place on agree further on
-pub agree_on : (n m : ℕ) (xs ys : List ℕ) → drop n xs ≡ drop n ys → drop (n + m) xs ≡ drop (n + m) ys
-agree_on n m xs ys e = sym (drop-drop m n xs) ∙ ap (drop m) e ∙ drop-drop m n ys
-
-pub agree_upto : (n m : ℕ) (xs ys : List ℕ) → n ≤ m → drop n xs ≡ drop n ys → drop m xs ≡ drop m ys
-agree_upto n m xs ys h e =
-    let s : n + (m - n) ≡ m = omega arith in
-    subst (λ (i : ℕ). drop i xs ≡ drop i ys) s (agree_on n (m - n) xs ys e)
-
--- a run goes on
-pub run_on : (p : ℕ → Bool) (l : List ℕ) (i : ℕ) → i < length l → p (get_or l i 0) ≡ true → run p (drop i l) ≡ suc (run p (drop (i + 1) l))
-run_on p l i h e =
-    ap (run p) (at_place l i h) ∙ ap (λ (t : Bool). cond t (suc (run p (drop (i + 1) l))) 0) e
-
--- a run ends before a byte that fails its test
-pub run_off : (p : ℕ → Bool) (l : List ℕ) (i : ℕ) → i < length l → p (get_or l i 0) ≡ false → run p (drop i l) ≡ 0
-run_off p l i h e =
-    ap (run p) (at_place l i h) ∙ ap (λ (t : Bool). cond t (suc (run p (drop (i + 1) l))) 0) e
-
--- a run ends at the end
-pub run_end : (p : ℕ → Bool) (l : List ℕ) (i : ℕ) → length l ≤ i → run p (drop i l) ≡ 0
-run_end p l i h = ap (run p) (drop_of_length-le l h)
 
 run_cons : (n : ℕ) (t : Bool) (m : ℕ) → m ≤ n → cond t (suc m) 0 ≤ suc n
 run_cons n true m h = omega arith
@@ -52,6 +25,14 @@ run_cons n false m h = omega arith
 pub run_le : (p : ℕ → Bool) (l : List ℕ) → run p l ≤ length l
 run_le p [] = omega arith
 run_le p (b ∷ bs) = run_cons (length bs) (p b) (run p bs) (run_le p bs)
+
+first_step : (t : Bool) (n : ℕ) → cond t (suc n) 0 ≡ cond (not t) 0 (1 + n)
+first_step true n = omega arith
+first_step false n = refl
+
+-- a run ends at the first byte that fails its test
+pub run_first : (p : ℕ → Bool) (l : List ℕ) → run p l ≡ position_or_len (λ b. not (p b)) l
+run_first p l = is_position_or_len (run p) (λ b. not (p b)) refl (λ x xs. first_step (p x) (run p xs)) l
 
 pub all_on : (l : List ℕ) (i : ℕ) → i < length l → is_digit (get_or l i 0) ≡ true → all_digits (drop (i + 1) l) ≡ all_digits (drop i l)
 all_on l i h e =
@@ -75,109 +56,43 @@ pub value_above : (v : ℕ) (l : List ℕ) → v ≤ value_from v l
 value_above v [] = omega arith
 value_above v (b ∷ bs) = let h = value_above (v * 10 + (b - 48)) bs in omega arith
 
-neither : (a b : Bool) (x y : Number) → cond (a && (b && false)) x y ≡ y
+-- a number is no less than its digits up to one place make it
+pub value_past : (l : List ℕ) (i v : ℕ) → i < length l → v * 10 + (get_or l i 0 - 48) ≤ value_from v (drop i l)
+value_past l i v h =
+    let s = value_above (v * 10 + (get_or l i 0 - 48)) (drop (i + 1) l) in
+    let e = value_on l i v (get_or l i 0 - 48) h refl in omega arith
+
+neither : (a b : Bool) (x y : Option ℕ) → cond (a && (b && false)) x y ≡ y
 neither true true x y = refl
 neither true false x y = refl
 neither false b x y = refl
 
-pub decimal_none : (l : List ℕ) → length l ≡ 0 → decimal_of l ≡ Malformed
+pub decimal_none : (l : List ℕ) → length l ≡ 0 → decimal_of l ≡ None
 unfolding decimal_of
 decimal_none [] e = refl
 decimal_none (b ∷ bs) e = absurd (omega arith)
 
-pub decimal_off : (l : List ℕ) → all_digits l ≡ false → decimal_of l ≡ Malformed
+pub decimal_off : (l : List ℕ) → all_digits l ≡ false → decimal_of l ≡ None
 unfolding decimal_of
 decimal_off [] e = refl
 decimal_off (b ∷ bs) e =
-    ap (λ (t : Bool). cond (t && leb (value_of (b ∷ bs)) 4294967295) (Value (value_of (b ∷ bs))) Malformed) e
+    ap (λ (t : Bool). cond (t && leb (value_of (b ∷ bs)) 4294967295) (Some (value_of (b ∷ bs))) None) e
 
-pub decimal_large : (l : List ℕ) → 4294967295 < value_of l → decimal_of l ≡ Malformed
+pub decimal_large : (l : List ℕ) → 4294967295 < value_of l → decimal_of l ≡ None
 unfolding decimal_of
 decimal_large l h =
-    ap (λ (t : Bool). cond (some_bytes l && (all_digits l && t)) (Value (value_of l)) Malformed) (lt-leb _ _ h)
-    ∙ neither (some_bytes l) (all_digits l) (Value (value_of l)) Malformed
+    ap (λ (t : Bool). cond (some_bytes l && (all_digits l && t)) (Some (value_of l)) None) (lt-leb _ _ h)
+    ∙ neither (some_bytes l) (all_digits l) (Some (value_of l)) None
 
-pub decimal_value : (l : List ℕ) (v : ℕ) → (length l ≡ 0 → ⊥) → all_digits l ≡ true → v ≤ 4294967295 → v ≡ value_of l → Value v ≡ decimal_of l
+pub decimal_value : (l : List ℕ) (v : ℕ) → (length l ≡ 0 → ⊥) → all_digits l ≡ true → v ≤ 4294967295 → v ≡ value_of l → Some v ≡ decimal_of l
 unfolding decimal_of
 decimal_value [] v n e h q = absurd (n refl)
 decimal_value (b ∷ bs) v n e h q =
     let s : leb (value_of (b ∷ bs)) 4294967295 ≡ true = le-leb (value_of (b ∷ bs)) 4294967295 (omega arith) in
-    ap Value q
+    ap Some q
     ∙ sym
-    (ap (λ (t : Bool). cond (t && leb (value_of (b ∷ bs)) 4294967295) (Value (value_of (b ∷ bs))) Malformed) e
-    ∙ ap (λ (t : Bool). cond t (Value (value_of (b ∷ bs))) Malformed) s)
-
-left : (s t : Bool) → s && t ≡ true → s ≡ true
-left true t e = refl
-left false t e = e
-
-pub digit_low : (b : ℕ) → is_digit b ≡ true → 48 ≤ b
-digit_low b e = leb-true 48 b (left (leb 48 b) (leb b 57) e)
-
-pub nibble_digit : (b : ℕ) → is_digit b ≡ true → b - 48 ≡ nibble_of b
-unfolding nibble_of
-nibble_digit b e = sym (ap (λ (t : Bool). cond t (b - 48) (upper_of b)) e)
-
-nibble_letter : (b : ℕ) → is_digit b ≡ false → upper_of b ≡ nibble_of b
-unfolding nibble_of
-nibble_letter b e = sym (ap (λ (t : Bool). cond t (b - 48) (upper_of b)) e)
-
-module _ (b : ℕ) (e : is_digit b ≡ false) where
-  pub nibble_below : b < 65 → 16 ≡ nibble_of b
-  nibble_below h = let k : b < 97 = omega arith in (simp (lt-leb 65 b h, lt-leb 97 b k)) ∙ nibble_letter b e
-
-  pub nibble_upper : 65 ≤ b → b ≤ 70 → b - 55 ≡ nibble_of b
-  nibble_upper h k = (simp (le-leb 65 b h, le-leb b 70 k)) ∙ nibble_letter b e
-
-  pub nibble_between : 65 ≤ b → 70 < b → b < 97 → 16 ≡ nibble_of b
-  nibble_between h k m = (simp (le-leb 65 b h, lt-leb b 70 k, lt-leb 97 b m)) ∙ nibble_letter b e
-
-  pub nibble_lower : 97 ≤ b → b ≤ 102 → b - 87 ≡ nibble_of b
-  nibble_lower h k =
-      let g : 65 ≤ b = omega arith in
-      let f : 70 < b = omega arith in
-      (simp (le-leb 65 b g, lt-leb b 70 f, le-leb 97 b h, le-leb b 102 k)) ∙ nibble_letter b e
-
-  pub nibble_above : 97 ≤ b → 102 < b → 16 ≡ nibble_of b
-  nibble_above h k =
-      let g : 65 ≤ b = omega arith in
-      let f : 70 < b = omega arith in
-      (simp (le-leb 65 b g, lt-leb b 70 f, le-leb 97 b h, lt-leb b 102 k)) ∙ nibble_letter b e
-
-neither_half : (t : Bool) (x y : Octet) → cond (t && false) x y ≡ y
-neither_half true x y = refl
-neither_half false x y = refl
-
-pub pair_good : (a b : ℕ) → nibble_of a < 16 → nibble_of b < 16 → Byte (nibble_of a * 16 + nibble_of b) ≡ pair_of a b
-unfolding pair_of
-pair_good a b h k =
-    sym
-    (ap (λ (t : Bool). cond (t && ltb (nibble_of b) 16) (Byte (nibble_of a * 16 + nibble_of b)) Broken) (lt-ltb _ _ h)
-    ∙ ap (λ (t : Bool). cond t (Byte (nibble_of a * 16 + nibble_of b)) Broken) (lt-ltb _ _ k))
-
-pub pair_high : (a b : ℕ) → 16 ≤ nibble_of a → Broken ≡ pair_of a b
-unfolding pair_of
-pair_high a b h =
-    sym (ap (λ (t : Bool). cond (t && ltb (nibble_of b) 16) (Byte (nibble_of a * 16 + nibble_of b)) Broken) (le-ltb _ _ h))
-
-pub pair_low : (a b : ℕ) → 16 ≤ nibble_of b → Broken ≡ pair_of a b
-unfolding pair_of
-pair_low a b h =
-    sym
-    (ap (λ (t : Bool). cond (ltb (nibble_of a) 16 && t) (Byte (nibble_of a * 16 + nibble_of b)) Broken) (le-ltb _ _ h)
-    ∙ neither_half (ltb (nibble_of a) 16) (Byte (nibble_of a * 16 + nibble_of b)) Broken)
-
-pub gap_none : (k : ℕ) (l : List ℕ) → k ≡ 0 → gap k l ≡ 0
-unfolding gap
-gap_none k l e = ap (λ (t : Bool). cond t 0 (run is_space l)) (eq-eqb k 0 e)
-
-pub gap_some : (k : ℕ) (l : List ℕ) → (k ≡ 0 → ⊥) → gap k l ≡ run is_space l
-unfolding gap
-gap_some k l e = ap (λ (t : Bool). cond t 0 (run is_space l)) (ne_eqb k 0 e)
-
--- a run from a place on ends inside its list
-pub end_le : (p : ℕ → Bool) (l : List ℕ) (i : ℕ) → i ≤ length l → i + run p (drop i l) ≤ length l
-end_le p l i h = omega (arith, run_le p (drop i l), length-drop i l)
+    (ap (λ (t : Bool). cond (t && leb (value_of (b ∷ bs)) 4294967295) (Some (value_of (b ∷ bs))) None) e
+    ∙ ap (λ (t : Bool). cond t (Some (value_of (b ∷ bs))) None) s)
 
 gap_le : (k : ℕ) (l : List ℕ) → gap k l ≤ length l
 unfolding gap
@@ -187,89 +102,152 @@ gap_le k l = picked (eqb k 0)
     picked true = omega arith
     picked false = run_le is_space l
 
-pub gap_end_le : (k : ℕ) (l : List ℕ) (i : ℕ) → i ≤ length l → i + gap k (drop i l) ≤ length l
-gap_end_le k l i h = omega (arith, gap_le k (drop i l), length-drop i l)
-
--- values that are read, before those that are still to come
+-- what is read, before what is still to come
 abbrev pub joined : List ℕ → Option (List ℕ) → Option (List ℕ)
-joined xs none = none
-joined xs (some ys) = some (xs ++ ys)
+joined xs None = None
+joined xs (Some ys) = Some (xs ++ ys)
 
-pub joined_none : (o : Option (List ℕ)) → o ≡ joined [] o
-joined_none none = refl
-joined_none (some ys) = refl
+pub joined_none : (o : Option (List ℕ)) → joined [] o ≡ o
+joined_none None = refl
+joined_none (Some ys) = refl
 
-pub joined_put : (xs : List ℕ) (v : ℕ) (o : Option (List ℕ)) → joined (xs ++ (v ∷ [])) o ≡ joined xs (put (Value v) o)
-joined_put xs v none = refl
-joined_put xs v (some ys) = ap some (append_assoc xs (v ∷ []) ys)
+joined_put : (xs : List ℕ) (v : ℕ) (o : Option (List ℕ)) → joined (xs ++ (v ∷ [])) o ≡ joined xs (put (Some v) o)
+joined_put xs v None = refl
+joined_put xs v (Some ys) = ap Some (append_assoc xs (v ∷ []) ys)
 
--- one value more of a line
-pub values_step : (l : List ℕ) (k at b e n m : ℕ) → b ≡ at + gap k (drop at l) → e ≡ b + run is_digit (drop b l) → n ≡ suc m
-    → values_from k n (drop at l) ≡ put (decimal_of (take (e - b) (drop b l))) (values_from (k + 1) m (drop e l))
-values_step l k at b e n m p q r =
-    let f : field k (drop at l) ≡ drop b l = drop-drop (gap k (drop at l)) at l ∙ ap (λ (x : ℕ). drop x l) (sym p) in
-    let d : run is_digit (drop b l) ≡ e - b = omega arith in
-    ap (λ (x : ℕ). values_from k x (drop at l)) r
-    ∙ ap (λ (x : List ℕ). put (decimal_of (take (run is_digit x) x)) (values_from (k + 1) m (drop (run is_digit x) x))) f
-    ∙ ap (λ (x : List ℕ). put (decimal_of (take (run is_digit (drop b l)) (drop b l))) (values_from (k + 1) m x))
-    (drop-drop (run is_digit (drop b l)) b l ∙ ap (λ (x : ℕ). drop x l) (sym q))
-    ∙ ap (λ (x : ℕ). put (decimal_of (take x (drop b l))) (values_from (k + 1) m (drop e l))) d
+-- a value that is stored comes after those before it
+pub stored_more : (out : List ℕ) (k v : ℕ) → k < length out → take (k + 1) (set out k v) ≡ take k out ++ (v ∷ [])
+stored_more out k v h = ap (λ (n : ℕ). take n (set out k v)) (add-one k) ∙ take-suc-set out k v h
 
--- the value that is stored comes after those before it
-pub stored_more : (out : List ℕ) (from k v : ℕ) → from + k < length out → take (k + 1) (drop from (set out (from + k) v)) ≡ take k (drop from out) ++ (v ∷ [])
-stored_more out from k v h =
-    ap (take (k + 1)) (drop-set-add from out k v)
-    ∙ ap (λ (n : ℕ). take n (set (drop from out) k v)) (add-one k)
-    ∙ take-suc-set (drop from out) k v (omega (arith, length-drop from out))
-
-pub stored_before : (out : List ℕ) (from k v : ℕ) → take from (set out (from + k) v) ≡ take from out
-stored_before out from k v = take-set-le from out (from + k) v (omega arith)
-
-pub over_end : (l : List ℕ) (at : ℕ) → length l ≡ at → when_over (drop at l) ≡ some []
-over_end l at e = let h : length l ≤ at = omega arith in ap when_over (drop_of_length-le l h)
-
-pub over_not : (l : List ℕ) (at : ℕ) → at < length l → when_over (drop at l) ≡ none
-over_not l at h = ap when_over (at_place l at h)
+pub stored_value : (out : List ℕ) (k v : ℕ) (n : Option ℕ) (o : Option (List ℕ)) → k < length out → n ≡ Some v
+    → joined (take (k + 1) (set out k v)) o ≡ joined (take k out) (put n o)
+stored_value out k v n o h e =
+    ap (λ (l : List ℕ). joined l o) (stored_more out k v h)
+    ∙ joined_put (take k out) v o
+    ∙ ap (λ (i : Option ℕ). joined (take k out) (put i o)) (sym e)
 
 -- a turn of the loop over a line's values: a value is stored, or there is none
-module _ (line out : List ℕ) (count from k at b e : ℕ) (N : Number) (W : Option (List ℕ)) (begins : b ≡ at + gap k (drop at line))
-    (ends : e ≡ b + run is_digit (drop b line)) (less : k < count) (number : N ≡ decimal_of (take (e - b) (drop b line)))
-    (inv : joined (take k (drop from out)) (values_from k (count - k) (drop at line)) ≡ W) where
-  whole : joined (take k (drop from out)) (put N (values_from (k + 1) (count - (k + 1)) (drop e line))) ≡ W
+module _ (rest others digits after out : List ℕ) (n k g m : ℕ) (W : Option (List ℕ)) (begins : g ≡ gap k rest) (field_is : others ≡ drop g rest)
+    (ends : m ≡ run is_digit others) (digits_are : digits ≡ take m others) (after_is : after ≡ drop m others) (less : k < n)
+    (inv : joined (take k out) (values_from k (n - k) rest) ≡ W) where
+  whole : joined (take k out) (put (decimal_of digits) (values_from (k + 1) (n - (k + 1)) after)) ≡ W
   whole =
-      ap (λ (n : Number). joined (take k (drop from out)) (put n (values_from (k + 1) (count - (k + 1)) (drop e line)))) number
-      ∙ ap (joined (take k (drop from out)))
-      (sym (values_step line k at b e (count - k) (count - (k + 1)) begins ends (omega arith)))
+      let e : suc (n - (k + 1)) ≡ n - k = omega arith in
+      let f : others ≡ field k rest = field_is ∙ ap (λ (i : ℕ). drop i rest) begins in
+      let d : digits ≡ take (run is_digit (field k rest)) (field k rest) = digits_are ∙ ap (λ (i : ℕ). take i others) ends ∙ ap (λ (l : List ℕ). take (run is_digit l) l) f in
+      let a : after ≡ drop (run is_digit (field k rest)) (field k rest) = after_is ∙ ap (λ (i : ℕ). drop i others) ends ∙ ap (λ (l : List ℕ). drop (run is_digit l) l) f in
+      ap (λ (l : List ℕ). joined (take k out) (put (decimal_of l) (values_from (k + 1) (n - (k + 1)) after))) d
+      ∙ ap (λ (l : List ℕ). joined (take k out) (put (decimal_of (take (run is_digit (field k rest)) (field k rest))) (values_from (k + 1) (n - (k + 1)) l))) a
+      ∙ ap (λ (i : ℕ). joined (take k out) (values_from k i rest)) e
       ∙ inv
 
-  pub again : (v : ℕ) → from + k < length out → N ≡ Value v
-      → joined (take (k + 1) (drop from (set out (from + k) v))) (values_from (k + 1) (count - (k + 1)) (drop e line)) ≡ W
-  again v h q =
-      ap (λ (xs : List ℕ). joined xs (values_from (k + 1) (count - (k + 1)) (drop e line))) (stored_more out from k v h)
-      ∙ joined_put (take k (drop from out)) v (values_from (k + 1) (count - (k + 1)) (drop e line))
-      ∙ ap (λ (n : Number). joined (take k (drop from out)) (put n (values_from (k + 1) (count - (k + 1)) (drop e line)))) (sym q)
-      ∙ whole
+  pub again : (v : ℕ) → k < length out → decimal_of digits ≡ Some v → joined (take (k + 1) (set out k v)) (values_from (k + 1) (n - (k + 1)) after) ≡ W
+  again v h q = stored_value out k v _ (values_from (k + 1) (n - (k + 1)) after) h q ∙ whole
 
-  pub stops : N ≡ Malformed → W ≡ none
-  stops q =
-      sym whole
-      ∙ ap (λ (n : Number). joined (take k (drop from out)) (put n (values_from (k + 1) (count - (k + 1)) (drop e line)))) q
+  pub stops : decimal_of digits ≡ None → W ≡ None
+  stops q = sym whole ∙ ap (λ (i : Option ℕ). joined (take k out) (put i (values_from (k + 1) (n - (k + 1)) after))) q
 
-over : (l : List ℕ) (at : ℕ) → at ≤ length l → (t : Bool) → eqb at (length l) ≡ t → when_over (drop at l) ≡ cond t (some []) none
-over l at h true e = over_end l at (sym (eqb-true at (length l) e))
-over l at h false e = over_not l at (omega (arith, eqb-false at (length l) e))
+over : (l : List ℕ) → 0 < length l → when_over l ≡ None
+over [] h = absurd (omega arith)
+over (b ∷ bs) h = refl
 
-joined_over : (xs : List ℕ) (t : Bool) → joined xs (cond t (some []) none) ≡ cond t (some xs) none
-joined_over xs true = ap some (append-nil xs)
-joined_over xs false = refl
+nothing : (l : List ℕ) → length l ≡ 0 → when_over l ≡ Some []
+nothing [] h = refl
+nothing (b ∷ bs) h = absurd (omega arith)
 
--- after the last value the line is over, or is none
-pub finish : (line out : List ℕ) (count from k at : ℕ) (W : Option (List ℕ)) → k ≡ count → at ≤ length line
-    → joined (take k (drop from out)) (values_from k (count - k) (drop at line)) ≡ W → W ≡ cond (eqb at (length line)) (some (take count (drop from out))) none
-finish line out count from k at W e h inv =
-    let z : count - k ≡ 0 = omega arith in
-    sym inv
-    ∙ ap (λ (n : ℕ). joined (take k (drop from out)) (values_from k n (drop at line))) z
-    ∙ ap (joined (take k (drop from out))) (over line at h (eqb at (length line)) refl)
-    ∙ joined_over (take k (drop from out)) (eqb at (length line))
-    ∙ ap (λ (n : ℕ). cond (eqb at (length line)) (some (take n (drop from out))) none) e
+-- after the last value the line is over, or has more
+module _ (rest out : List ℕ) (k : ℕ) (W : Option (List ℕ)) (same : k ≡ length out) (inv : joined (take k out) (values_from k (length out - k) rest) ≡ W) where
+  ended : joined (take k out) (when_over rest) ≡ W
+  ended =
+      let e : length out - k ≡ 0 = omega arith in
+      ap (λ (i : ℕ). joined (take k out) (values_from k i rest)) (sym e) ∙ inv
+
+  pub finished : length rest ≡ 0 → W ≡ Some out
+  finished h =
+      let e : when_over rest ≡ Some [] = nothing rest h in
+      sym ended ∙ ap (joined (take k out)) e ∙ ap Some (append-nil (take k out) ∙ ap (λ (n : ℕ). take n out) same ∙ take-length out)
+
+  pub unfinished : (length rest ≡ 0 → ⊥) → W ≡ None
+  unfinished h = sym ended ∙ ap (joined (take k out)) (over rest (omega arith))
+
+-- what is left of a list after its first bytes
+pub rest_of : (n : ℕ) (l : List ℕ) → take (length l - n) (drop n l) ≡ drop n l
+rest_of n l =
+    let e : length l - n ≡ length (drop n l) = omega (arith, length-drop n l) in
+    ap (λ (i : ℕ). take i (drop n l)) e ∙ take-length (drop n l)
+
+-- lists that agree from a place on agree further on
+pub agree_on : (n m : ℕ) (xs ys : List ℕ) → drop n xs ≡ drop n ys → drop (n + m) xs ≡ drop (n + m) ys
+agree_on n m xs ys e = sym (drop-drop m n xs) ∙ ap (drop m) e ∙ drop-drop m n ys
+
+pub agree_upto : (n m : ℕ) (xs ys : List ℕ) → n ≤ m → drop n xs ≡ drop n ys → drop m xs ≡ drop m ys
+agree_upto n m xs ys h e =
+    let s : n + (m - n) ≡ m = omega arith in
+    subst (λ (i : ℕ). drop i xs ≡ drop i ys) s (agree_on n (m - n) xs ys e)
+
+alone : (t : Bool) → t && true ≡ t
+alone true = refl
+alone false = refl
+
+never_both : (t : Bool) → t && false ≡ false
+never_both true = refl
+never_both false = refl
+
+pub dash_eq : (l : List ℕ) → pointwise eqb l (45 ∷ []) ≡ is_dash l
+dash_eq [] = refl
+dash_eq (b ∷ []) = alone (eqb b 45)
+dash_eq (b ∷ c ∷ l) = never_both (eqb b 45)
+
+pub string_dash : (l : List ℕ) → is_dash l ≡ true → string_of l ≡ Some []
+unfolding string_of
+string_dash l e = ap (λ (t : Bool). cond t (Some []) (pairs_of l)) e
+
+pub string_pairs : (l : List ℕ) → is_dash l ≡ false → pairs_of l ≡ string_of l
+unfolding string_of
+string_pairs l e = sym (ap (λ (t : Bool). cond t (Some []) (pairs_of l)) e)
+
+joined_size : (xs : List ℕ) (b : Option ℕ) (o : Option (List ℕ)) (bs : List ℕ) → joined xs (put b o) ≡ Some bs → length xs < length bs
+joined_size xs None o bs e = cc
+joined_size xs (Some v) None bs e = cc
+joined_size xs (Some v) (Some ys) bs e =
+    let q : xs ++ (v ∷ ys) ≡ bs = cc in
+    omega (arith, ap length q, length-append xs (v ∷ ys))
+
+two_digits : (l : List ℕ) → 2 ≤ length l → pairs_of l ≡ put (pair_of (get_or l 0 0) (get_or l 1 0)) (pairs_of (drop 2 l))
+two_digits [] h = absurd (omega arith)
+two_digits (b ∷ []) h = absurd (omega arith)
+two_digits (b ∷ c ∷ l) h = refl
+
+fewer_digits : (l : List ℕ) → length l < 2 → (length l ≡ 0 → ⊥) → pairs_of l ≡ None
+fewer_digits [] h n = absurd (n refl)
+fewer_digits (b ∷ []) h n = refl
+fewer_digits (b ∷ c ∷ l) h n = absurd (omega arith)
+
+no_digits : (l : List ℕ) → length l ≡ 0 → pairs_of l ≡ Some []
+no_digits [] h = refl
+no_digits (b ∷ bs) h = absurd (omega arith)
+
+-- a turn of the loop over a string's digits, with W the string
+module _ (rest out : List ℕ) (count : ℕ) (W : Option (List ℕ)) (inv : joined (take count out) (pairs_of rest) ≡ W) where
+  next : 2 ≤ length rest → joined (take count out) (put (pair_of (get_or rest 0 0) (get_or rest 1 0)) (pairs_of (drop 2 rest))) ≡ W
+  next h = ap (joined (take count out)) (sym (two_digits rest h)) ∙ inv
+
+  pub next_byte : (v : ℕ) → 2 ≤ length rest → count < length out → pair_of (get_or rest 0 0) (get_or rest 1 0) ≡ Some v
+      → joined (take (count + 1) (set out count v)) (pairs_of (drop 2 rest)) ≡ W
+  next_byte v h room q = stored_value out count v _ (pairs_of (drop 2 rest)) room q ∙ next h
+
+  pub no_byte : 2 ≤ length rest → pair_of (get_or rest 0 0) (get_or rest 1 0) ≡ None → W ≡ None
+  no_byte h q = sym (next h) ∙ ap (λ (o : Option ℕ). joined (take count out) (put o (pairs_of (drop 2 rest)))) q
+
+  pub no_room : 2 ≤ length rest → count ≤ length out → length out ≤ count → (bs : List ℕ) → W ≡ Some bs → length out < length bs
+  no_room h within full bs e =
+      omega (arith, joined_size (take count out) _ _ bs (next h ∙ e), length-take count out)
+
+  pub odd_digit : length rest < 2 → (length rest ≡ 0 → ⊥) → W ≡ None
+  odd_digit h n = sym inv ∙ ap (joined (take count out)) (fewer_digits rest h n)
+
+  pub all_bytes : length rest ≡ 0 → W ≡ Some (take count out)
+  all_bytes h = sym inv ∙ ap (joined (take count out)) (no_digits rest h) ∙ ap Some (append-nil (take count out))
+
+pub never : (W : Option (List ℕ)) (bs : List ℕ) (n m : ℕ) → W ≡ None → W ≡ Some bs → n < m
+never W bs n m p q = cc

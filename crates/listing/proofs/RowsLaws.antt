@@ -1,22 +1,12 @@
 -- Laws of a table's lines: what the loop over them has read so far.
-use mathlib.Core.Path.{◌≡◌, refl, sym, ap, subst, ◌∙◌}
-use mathlib.Core.Bool.{Bool, true, false, cond, ◌||◌, true≢false}
-use mathlib.Core.List.{List, [], ◌∷◌, ◌++◌, append_assoc, append-nil}
-use mathlib.Core.Option.{Option, none, some}
-use Prim.Native.Nat.{ℕ, ◌+◌, ◌-◌, ◌≤◌, ◌<◌}
-use native.Mathlib.Omega.{arith}
-use lib.ListN.{length, take, drop}
-use lib.Seq.{take-add}
+use Rattle.std.proofs.Common.{◌≡◌, refl, sym, ap, ◌∙◌, Bool, true, false, cond, ◌||◌, List, [], ◌∷◌, ◌++◌, append_assoc, Option, Some, None, ℕ, ◌+◌, ◌≤◌, ◌<◌, length, take, arith}
+use mathlib.Core.List.{append-nil}
 use lib.Dec.{leb, ltb}
-use borrow.Author.Tests.{ltb-true, ltb-false, le-leb, lt-leb, lt-ltb, le-ltb}
-use Rattle.listing.specs.declared.read.Part.{Part}
-use Rattle.listing.specs.declared.read.Place.{Place}
-use Rattle.listing.specs.Read.{run, in_line, values_of, Stored}
-use Rattle.listing.specs.Text.{Block, got, stop, onward, before, lines_of, rows_of}
-use Rattle.listing.specs.Places.{counted, stopped_at, after_at, line_end, line_at, ended_at, block_at, Numbered, Listed}
-use Rattle.listing.proofs.LinesLaws.{lines_at, lines_over, line_length, counted_small, end_small}
+use borrow.Author.Tests.{le-leb, lt-leb, lt-ltb, le-ltb}
+use Rattle.listing.specs.Read.{values_of}
+use Rattle.listing.specs.Text.{Block, got, stop, onward, before, rows_of}
 
-onward_none : (b : Block (List ℕ)) → b ≡ onward [] b
+pub onward_none : (b : Block (List ℕ)) → onward [] b ≡ b
 onward_none (stop m) = refl
 onward_none (got ws ls m) = refl
 
@@ -46,184 +36,63 @@ pub rows_line : (count most room : ℕ) (last : Bool) (line used : ℕ) (l : Lis
 rows_line count most room last line used [] ls h = absurd (omega arith)
 rows_line count most room last line used (b ∷ bs) ls h = refl
 
-module _ (text : List ℕ) (count most room : ℕ) (last : Bool) where
-  -- the words of the lines from a place on
-  abbrev rest : ℕ → ℕ → ℕ → Block (List ℕ)
-  rest at line used = rows_of count most room last line used (lines_of (drop at text))
+-- what is read, before what the lines that are left give: in all W
+module _ (count most room : ℕ) (last : Bool) (n used : ℕ) (out : List ℕ) (ls : List (List ℕ)) (W : Block (List ℕ))
+    (inv : onward (take used out) (rows_of count most room last n used ls) ≡ W) where
+  closed : rows_of count most room last n used ls ≡ stop n → W ≡ stop n
+  closed e = sym inv ∙ ap (onward (take used out)) e
 
-  rest_row : (at line used : ℕ) → at < length text → 0 < run in_line (drop at text)
-      → rest at line used
-      ≡ cond (leb most used || ltb room (used + count)) (stop line)
-      (before line (values_of count (line_at text at)) (rest (line_end text at + 1) (line + 1) (used + count)))
-  rest_row at line used h n =
-      ap (rows_of count most room last line used) (lines_at text at h)
-      ∙ rows_line count most room last line used (line_at text at) (lines_of (drop (line_end text at + 1) text)) (omega (arith, line_length text at))
+  -- the end of the text
+  pub rows_over : ls ≡ [] → last ≡ false → W ≡ stop n
+  rows_over e f = closed (ap (rows_of count most room last n used) e ∙ ap (λ (t : Bool). cond t (got [] [] n) (stop n)) f)
 
-  rest_many : (at line used : ℕ) → at < length text → 0 < run in_line (drop at text) → leb most used || ltb room (used + count) ≡ true
-      → rest at line used ≡ stop line
-  rest_many at line used h n e =
-      rest_row at line used h n
-      ∙ ap (λ (t : Bool). cond t (stop line) (before line (values_of count (line_at text at)) (rest (line_end text at + 1) (line + 1) (used + count)))) e
+  pub rows_end : ls ≡ [] → last ≡ true → W ≡ got (take used out) [] n
+  rows_end e f =
+      sym inv
+      ∙ ap (λ (x : List (List ℕ)). onward (take used out) (rows_of count most room last n used x)) e
+      ∙ ap (λ (t : Bool). onward (take used out) (cond t (got [] [] n) (stop n))) f
+      ∙ ap (λ (x : List ℕ). got x [] n) (append-nil (take used out))
 
-  rest_values : (at line used : ℕ) (o : Option (List ℕ)) → at < length text → 0 < run in_line (drop at text) → used < most → used + count ≤ room
-      → values_of count (line_at text at) ≡ o → rest at line used ≡ before line o (rest (line_end text at + 1) (line + 1) (used + count))
-  rest_values at line used o h n m k e =
-      rest_row at line used h n
-      ∙ ap (λ (t : Bool). cond t (stop line) (before line (values_of count (line_at text at)) (rest (line_end text at + 1) (line + 1) (used + count))))
-      (limits_none most used room (used + count) m k)
-      ∙ ap (λ (x : Option (List ℕ)). before line x (rest (line_end text at + 1) (line + 1) (used + count))) e
+  pub rows_blank : (l : List ℕ) (rest : List (List ℕ)) → ls ≡ l ∷ rest → length l ≡ 0 → W ≡ got (take used out) rest (n + 1)
+  rows_blank [] rest e h =
+      sym inv
+      ∙ ap (λ (x : List (List ℕ)). onward (take used out) (rows_of count most room last n used x)) e
+      ∙ ap (λ (x : List ℕ). got x rest (n + 1)) (append-nil (take used out))
+  rows_blank (b ∷ bs) rest e h = absurd (omega arith)
 
--- what the lines gave in all
-pub record Ends (text : List ℕ) (count most room : ℕ) (last : Bool) (at₀ line₀ : ℕ) (ws : List ℕ) (p : Place) : Type 0 where
-  pub numbered : line₀ ≤ at₀ + 1 → Numbered p
-  pub rows : line₀ ≤ at₀ + 1 → block_at text p ws ≡ rows_of count most room last line₀ 0 (lines_of (drop at₀ text))
+  module _ (l : List ℕ) (rest : List (List ℕ)) (lines : ls ≡ l ∷ rest) (some : 0 < length l) where
+    opened : rows_of count most room last n used ls
+        ≡ cond (leb most used || ltb room (used + count)) (stop n)
+        (before n (values_of count l) (rows_of count most room last (n + 1) (used + count) rest))
+    opened = ap (rows_of count most room last n used) lines ∙ rows_line count most room last n used l rest some
 
--- what is left to read follows what is read
-pub record Upto (text : List ℕ) (count most room : ℕ) (last : Bool) (at₀ line₀ at line used : ℕ) (out : List ℕ) : Type 0 where
-  pub numbered : line₀ ≤ at₀ + 1 → line ≤ at + 1
-  pub follows : line₀ ≤ at₀ + 1
-      → onward (take used out) (rows_of count most room last line used (lines_of (drop at text)))
-      ≡ rows_of count most room last line₀ 0 (lines_of (drop at₀ text))
+    limited : leb most used || ltb room (used + count) ≡ true → W ≡ stop n
+    limited e =
+        closed (opened ∙ ap (λ (t : Bool). cond t (stop n) (before n (values_of count l) (rows_of count most room last (n + 1) (used + count) rest))) e)
 
-module _ (text : List ℕ) (count most room : ℕ) (last : Bool) (at₀ line₀ at line used : ℕ) (out : List ℕ) (small : length text < 9223372036854775808)
-    (up : Upto text count most room last at₀ line₀ at line used out) where
-  pub closed : (out' : List ℕ) → rows_of count most room last line used (lines_of (drop at text)) ≡ stop line
-      → Ends text count most room last at₀ line₀ (take used out') (stopped_at line)
-  closed out' e = record {
-    numbered = λ n. λ g. absurd (true≢false (sym g));
-    rows = λ n. sym (ap (onward (take used out)) e) ∙ up.follows n;
-  }
+    pub rows_many : most ≤ used → W ≡ stop n
+    rows_many h = limited (limits_first most used (ltb room (used + count)) h)
 
-  -- a line that `values` refused
-  pub refused : (out' : List ℕ) (e : ℕ) → at < length text → e ≡ line_end text at → at < e → used < most
-      → Stored (take (e - at) (drop at text)) count out used out' false → length out ≡ room
-      → Ends text count most room last at₀ line₀ (take used out') (stopped_at line)
-  refused out' e h q n m s z = closed out' (why (ltb room (used + count)) refl)
-    where
-      width : e - at ≡ run in_line (drop at text)
-      width = omega arith
+    pub rows_full : room < used + count → W ≡ stop n
+    rows_full h = limited (limits_second (leb most used) room (used + count) h)
 
-      why : (t : Bool) → ltb room (used + count) ≡ t → rows_of count most room last line used (lines_of (drop at text)) ≡ stop line
-      why true k = rest_many text count most room last at line used h (omega arith)
-          (limits_second (leb most used) room (used + count) (ltb-true room (used + count) k))
-      why false k =
-          let f = ltb-false room (used + count) k in
-          rest_values text count most room last at line used none h (omega arith) m f
-          (ap (λ (n : ℕ). values_of count (take n (drop at text))) (sym width) ∙ s.stored (omega arith))
+    within : (o : Option (List ℕ)) → used < most → used + count ≤ room → values_of count l ≡ o
+        → rows_of count most room last n used ls ≡ before n o (rows_of count most room last (n + 1) (used + count) rest)
+    within o h k e =
+        opened
+        ∙ ap (λ (t : Bool). cond t (stop n) (before n (values_of count l) (rows_of count most room last (n + 1) (used + count) rest)))
+        (limits_none most used room (used + count) h k)
+        ∙ ap (λ (x : Option (List ℕ)). before n x (rows_of count most room last (n + 1) (used + count) rest)) e
 
-  -- a line that `values` stored
-  pub further : (out' : List ℕ) (e : ℕ) → at < length text → e ≡ line_end text at → at < e → used < most
-      → Stored (take (e - at) (drop at text)) count out used out' true → length out ≡ room
-      → Upto text count most room last at₀ line₀ (counted e) (counted line) (used + count) out'
-  further out' e h q n m s z = record {
-    numbered = λ k. omega (arith, up.numbered k, next_line k, next_place);
-    follows = λ k.
-        ap (λ (i : ℕ). onward (take (used + count) out') (rows_of count most room last (counted line) (used + count) (lines_of (drop i text))))
-        (next_place ∙ ap (λ (i : ℕ). i + 1) q)
-        ∙ ap (λ (i : ℕ). onward (take (used + count) out') (rows_of count most room last i (used + count) (lines_of (drop (line_end text at + 1) text))))
-        (next_line k)
-        ∙ ap (λ (l : List ℕ). onward l (rows_of count most room last (line + 1) (used + count) (lines_of (drop (line_end text at + 1) text)))) joined
-        ∙ sym (onward_twice (take used out) new (rows_of count most room last (line + 1) (used + count) (lines_of (drop (line_end text at + 1) text))))
-        ∙ ap (onward (take used out))
-        (sym (rest_values text count most room last at line used (some new) h (omega arith) m (omega (arith, s.room refl)) values))
-        ∙ up.follows k;
-  }
-    where
-      new : List ℕ
-      new = take count (drop used out')
+    -- a line without so many values
+    pub rows_refused : used < most → used + count ≤ room → values_of count l ≡ None → W ≡ stop n
+    rows_refused h k e = closed (within None h k e)
 
-      width : e - at ≡ run in_line (drop at text)
-      width = omega arith
-
-      values : values_of count (line_at text at) ≡ some new
-      values = ap (λ (n : ℕ). values_of count (take n (drop at text))) (sym width) ∙ s.stored (s.room refl)
-
-      joined : take (used + count) out' ≡ take used out ++ new
-      joined = take-add used count out' ∙ ap (λ (xs : List ℕ). xs ++ new) s.before
-
-      next_place : counted e ≡ e + 1
-      next_place = counted_small e (omega (arith, end_small text at h small))
-
-      next_line : line₀ ≤ at₀ + 1 → counted line ≡ line + 1
-      next_line k = counted_small line (omega (arith, up.numbered k))
-
-  pub at_blank : at < length text → (e : ℕ) → e ≡ line_end text at → e ≡ at → Ends text count most room last at₀ line₀ (take used out) (after_at e line)
-  at_blank h e q n = record {
-    numbered = λ k. λ g. omega (arith, up.numbered k, next_line k, next_place);
-    rows = λ k.
-        ap (λ (i : ℕ). got (take used out) (lines_of (drop i text)) (counted line)) (next_place ∙ ap (λ (i : ℕ). i + 1) q)
-        ∙ ap (λ (i : ℕ). got (take used out) (lines_of (drop (line_end text at + 1) text)) i) (next_line k)
-        ∙ ap (λ (l : List ℕ). got l (lines_of (drop (line_end text at + 1) text)) (line + 1)) (sym (append-nil (take used out)))
-        ∙ ap (onward (take used out)) (sym over)
-        ∙ up.follows k;
-  }
-    where
-      empty : run in_line (drop at text) ≡ 0
-      empty = omega arith
-
-      over : rows_of count most room last line used (lines_of (drop at text)) ≡ got [] (lines_of (drop (line_end text at + 1) text)) (line + 1)
-      over =
-          ap (rows_of count most room last line used)
-          (lines_at text at h ∙ ap (λ (n : ℕ). take n (drop at text) ∷ lines_of (drop (line_end text at + 1) text)) empty)
-
-      next_place : counted e ≡ e + 1
-      next_place = counted_small e (omega (arith, end_small text at h small))
-
-      next_line : line₀ ≤ at₀ + 1 → counted line ≡ line + 1
-      next_line k = counted_small line (omega (arith, up.numbered k))
-
-  pub at_most : at < length text → (e : ℕ) → e ≡ line_end text at → (e ≡ at → ⊥) → most ≤ used
-      → Ends text count most room last at₀ line₀ (take used out) (stopped_at line)
-  at_most h e q n m = closed out (rest_many text count most room last at line used h (omega arith) (limits_first most used (ltb room (used + count)) m))
-
-  pub at_end : length text ≤ at → Ends text count most room last at₀ line₀ (take used out) (ended_at last at line)
-  at_end h = record { numbered = λ k. numbered_end last k; rows = λ k. rows_end last ∙ ap (onward (take used out)) (sym over) ∙ up.follows k }
-    where
-      over : rows_of count most room last line used (lines_of (drop at text)) ≡ cond last (got [] [] line) (stop line)
-      over = ap (rows_of count most room last line used) (lines_over text at h)
-
-      numbered_end : (t : Bool) → line₀ ≤ at₀ + 1 → Numbered (ended_at t at line)
-      numbered_end true k = λ g. up.numbered k
-      numbered_end false k = λ g. absurd (true≢false (sym g))
-
-      rows_end : (t : Bool) → block_at text (ended_at t at line) (take used out) ≡ onward (take used out) (cond t (got [] [] line) (stop line))
-      rows_end true =
-          ap (λ (l : List (List ℕ)). got (take used out) l line) (lines_over text at h)
-          ∙ ap (λ (l : List ℕ). got l [] line) (sym (append-nil (take used out)))
-      rows_end false = refl
-
-pub upto_start : (text : List ℕ) (count most room : ℕ) (last : Bool) (at line : ℕ) (out : List ℕ) → Upto text count most room last at line at line 0 out
-upto_start text count most room last at line out = record {
-  numbered = λ k. k;
-  follows = λ k. sym (onward_none (rows_of count most room last line 0 (lines_of (drop at text))));
-}
-
-pub moved : (text : List ℕ) (count most room : ℕ) (last : Bool) (at₀ line₀ at line used : ℕ) (out : List ℕ) (x y : ℕ) → x ≡ at → y ≡ line
-    → Upto text count most room last at₀ line₀ at line used out → Upto text count most room last at₀ line₀ x y used out
-moved text count most room last at₀ line₀ at line used out x y p q u =
-    subst (λ (n : ℕ). Upto text count most room last at₀ line₀ n y used out) (sym p)
-    (subst (λ (n : ℕ). Upto text count most room last at₀ line₀ at n used out) (sym q) u)
-
-pub stored_as : {line : List ℕ} {count : ℕ} {out : List ℕ} {from : ℕ} {out' : List ℕ} {t u : Bool} → Stored line count out from out' t → t ≡ u
-    → Stored line count out from out' u
-stored_as {line} {count} {out} {from} {out'} s e = subst (λ (t : Bool). Stored line count out from out' t) e s
-
-pub ends_at : {text : List ℕ} {count most room : ℕ} {last : Bool} {at line : ℕ} {ws : List ℕ} {p q : Place} → q ≡ p
-    → Ends text count most room last at line ws p → Ends text count most room last at line ws q
-ends_at {text} {count} {most} {room} {last} {at} {line} {ws} e r = subst (λ (x : Place). Ends text count most room last at line ws x) (sym e) r
-
-pub listed : {text : List ℕ} {from : Place} {count most : ℕ} {last : Bool} {out out' : List ℕ} {used : ℕ} {p : Place} → from.good ≡ true
-    → used ≤ length out' → (p.good ≡ true → drop used out' ≡ drop used out)
-    → Ends text count most (length out) last from.at from.line (take used out') p
-    → Listed text from count most last out out' (record { used = used; place = p })
-listed g k past ends = record {
-  passed = λ e. absurd (true≢false (sym g ∙ e));
-  inside = k;
-  numbered = λ n. ends.numbered (n g);
-  rows = λ e n. ends.rows (n g);
-  past = past;
-}
-
-pub listed_from : {text : List ℕ} {from to : Place} {count most : ℕ} {last : Bool} {out out' : List ℕ} {r : Part} → from ≡ to
-    → Listed text from count most last out out' r → Listed text to count most last out out' r
-listed_from {text} {from} {to} {count} {most} {last} {out} {out'} {r} e l = subst (λ (x : Place). Listed text x count most last out out' r) e l
+    -- a line whose values are stored
+    pub rows_further : (vs out' : List ℕ) → used < most → used + count ≤ room → values_of count l ≡ Some vs → take (used + count) out' ≡ take used out ++ vs
+        → onward (take (used + count) out') (rows_of count most room last (n + 1) (used + count) rest) ≡ W
+    rows_further vs out' h k e s =
+        ap (λ (x : List ℕ). onward x (rows_of count most room last (n + 1) (used + count) rest)) s
+        ∙ sym (onward_twice (take used out) vs (rows_of count most room last (n + 1) (used + count) rest))
+        ∙ ap (onward (take used out)) (sym (within (Some vs) h k e))
+        ∙ inv

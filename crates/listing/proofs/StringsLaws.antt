@@ -1,36 +1,39 @@
--- Laws of table 1's lines: what the loop over them has read so far.
-use mathlib.Core.Path.{◌≡◌, refl, sym, ap, subst, ◌∙◌}
-use mathlib.Core.Bool.{Bool, true, false, cond, ◌||◌, true≢false}
-use mathlib.Core.List.{List, [], ◌∷◌, ◌++◌, append_assoc, append-nil}
-use mathlib.Core.Option.{Option, none, some}
-use mathlib.Core.Logic.{◌⊎◌, inl, inr, ⊎_elim}
-use Prim.Native.Nat.{ℕ, suc, ◌+◌, ◌-◌, ◌≤◌, ◌<◌}
+-- Laws of table 1's lines: what is stored of a string, and what the loop over the lines has read so far.
+use Rattle.std.proofs.Common.{◌≡◌, refl, sym, ap, subst, ◌∙◌, Bool, true, false, cond, ◌||◌, ◌⊎◌, List, [], ◌∷◌, ◌++◌, append_assoc, Option, Some, None, ℕ, suc, ◌+◌, ◌-◌, ◌≤◌, ◌<◌, length, take, drop, set, arith}
+use mathlib.Core.List.{append-nil}
+use mathlib.Core.Logic.{inl, inr, ⊎_elim}
 use native.Mathlib.Numerals.{add-one}
-use native.Mathlib.Omega.{arith}
-use lib.ListN.{length, take, drop, set, length-set, length-take, length-drop}
-use lib.Seq.{take-add, take-suc-set, drop-set-lt}
+use lib.ListN.{length-set, length-take, length-drop, drop_of_length-le}
+use lib.Seq.{take-add, take-suc-set, drop-set-lt, drop-drop, length-take-le, drop_at, take_at}
 use lib.Dec.{leb, ltb}
 use borrow.Author.Tests.{ltb-true, ltb-false, lt-ltb, le-ltb}
-use Rattle.listing.specs.declared.read.Held.{Held}
-use Rattle.listing.specs.declared.read.Held.TheVariants.{Bytes, Unread}
-use Rattle.listing.specs.declared.read.Place.{Place}
-use Rattle.listing.specs.declared.read.Texts.{Texts}
-use Rattle.listing.specs.Read.{run, in_line, string_of, Kept}
-use Rattle.listing.specs.Text.{Block, got, stop, onward_text, before_text, lines_of, strings_of}
-use Rattle.listing.specs.Places.{counted, stopped_at, after_at, line_end, line_at, block_at, Numbered, Entered, Texted}
-use Rattle.listing.proofs.LinesLaws.{lines_at, lines_over, line_length, counted_small, end_small}
+use borrow.Rule.Slice.PartMut.{put_mid, post_of, mid_of}
+use Rattle.listing.specs.Read.{string_of}
+use Rattle.listing.specs.Text.{Block, got, stop, onward_text, before_text, strings_of}
+use Rattle.listing.specs.Places.{Entered}
+use Rattle.listing.proofs.ReadLaws.{rest_of}
 use Rattle.listing.proofs.RowsLaws.{limits_first, limits_second, limits_none}
 
-pub kept_unread : (line out : List ℕ) (from : ℕ) (out' : List ℕ) (r : Held) → Kept line out from out' r → r ≡ Unread → Kept line out from out' Unread
-kept_unread line out from out' r h e = subst (λ (x : Held). Kept line out from out' x) e h
+-- a part that is written up to the end
+module _ (xs ys : List ℕ) (a : ℕ) (within : a ≤ length xs) (same : length ys ≡ length xs - a) where
+  whole : put_mid a (length xs - a) xs ys ≡ take a xs ++ ys
+  whole =
+      let e : post_of a (length xs - a) xs ≡ [] = drop_of_length-le (drop a xs) (omega (arith, length-drop a xs)) in
+      ap (λ (l : List ℕ). take a xs ++ (ys ++ l)) e ∙ ap (λ (l : List ℕ). take a xs ++ l) (append-nil ys)
 
--- a string that is held is as long as its bytes
-pub kept_size : (line out : List ℕ) (from : ℕ) (out' : List ℕ) (k : ℕ) → Kept line out from out' (Bytes k) → length out' ≡ length out → (bs : List ℕ)
-    → string_of line ≡ some bs → from + length bs ≡ k
-kept_size line out from out' k h z bs e =
-    let q : some bs ≡ some (take (k - from) (drop from out')) = sym e ∙ h.3 in
-    let s : bs ≡ take (k - from) (drop from out') = cc in
-    omega (arith, ap length s, length-take (k - from) (drop from out'), length-drop from out', h.1, h.2)
+  pub written_before : take a (put_mid a (length xs - a) xs ys) ≡ take a xs
+  written_before = ap (take a) whole ∙ take_at (take a xs) ys a (length-take-le a xs within)
+
+  pub written : drop a (put_mid a (length xs - a) xs ys) ≡ ys
+  written = ap (drop a) whole ∙ drop_at (take a xs) ys a (length-take-le a xs within)
+
+  pub written_after : (n : ℕ) → drop n ys ≡ drop n (mid_of a (length xs - a) xs) → drop (a + n) (put_mid a (length xs - a) xs ys) ≡ drop (a + n) xs
+  written_after n e =
+      sym (drop-drop n a (put_mid a (length xs - a) xs ys))
+      ∙ ap (drop n) written
+      ∙ e
+      ∙ ap (drop n) (rest_of a xs)
+      ∙ drop-drop n a xs
 
 pair_set : (l : List ℕ) (i h m : ℕ) → i + 2 ≤ length l → take (i + 2) (set (set l i h) (i + 1) m) ≡ take i l ++ (h ∷ m ∷ [])
 pair_set l i h m k =
@@ -40,9 +43,9 @@ pair_set l i h m k =
     ∙ ap (λ (xs : List ℕ). xs ++ (m ∷ [])) (ap (λ (x : ℕ). take x (set l i h)) (add-one i) ∙ take-suc-set l i h (omega arith))
     ∙ append_assoc (take i l) (h ∷ []) (m ∷ [])
 
-onward_none : (b : Block (List ℕ × List ℕ)) → b ≡ onward_text [] [] b
-onward_none (stop m) = refl
-onward_none (got x ls m) = refl
+pub onward_text_none : (b : Block (List ℕ × List ℕ)) → onward_text [] [] b ≡ b
+onward_text_none (stop m) = refl
+onward_text_none (got x ls m) = refl
 
 onward_twice : (vs ws bs cs : List ℕ) (b : Block (List ℕ × List ℕ)) → onward_text vs bs (onward_text ws cs b) ≡ onward_text (vs ++ ws) (bs ++ cs) b
 onward_twice vs ws bs cs (stop m) = refl
@@ -51,16 +54,16 @@ onward_twice vs ws bs cs (got x ls m) =
     ∙ ap (λ (l : List ℕ). got (((vs ++ ws) ++ x.0), l) ls m) (sym (append_assoc bs cs x.1))
 
 -- a string that there is no room for
-pub no_room : (room held n : ℕ) (o : Option (List ℕ)) (rest : ℕ → Block (List ℕ × List ℕ))
-    → ((bs : List ℕ) → o ≡ some bs → (4096 < held + length bs) ⊎ (room < held + length bs)) → before_text n room held o rest ≡ stop n
-no_room room held n none rest h = refl
-no_room room held n (some bs) rest h =
+no_room : (room held n : ℕ) (o : Option (List ℕ)) (rest : ℕ → Block (List ℕ × List ℕ))
+    → ((bs : List ℕ) → o ≡ Some bs → (4096 < held + length bs) ⊎ (room < held + length bs)) → before_text n room held o rest ≡ stop n
+no_room room held n None rest h = refl
+no_room room held n (Some bs) rest h =
     ap (λ (t : Bool). cond t (stop n) (onward_text (held ∷ length bs ∷ []) bs (rest (held + length bs))))
     (⊎_elim (λ k. ap (λ (t : Bool). t || ltb room (held + length bs)) (lt-ltb 4096 (held + length bs) k))
     (λ k. limits_second (ltb 4096 (held + length bs)) room (held + length bs) k) (h bs refl))
 
 pub with_room : (room held n : ℕ) (bs : List ℕ) (rest : ℕ → Block (List ℕ × List ℕ)) → held + length bs ≤ 4096 → held + length bs ≤ room
-    → before_text n room held (some bs) rest ≡ onward_text (held ∷ length bs ∷ []) bs (rest (held + length bs))
+    → before_text n room held (Some bs) rest ≡ onward_text (held ∷ length bs ∷ []) bs (rest (held + length bs))
 with_room room held n bs rest h k =
     ap (λ (t : Bool). cond t (stop n) (onward_text (held ∷ length bs ∷ []) bs (rest (held + length bs))))
     (ap (λ (t : Bool). t || ltb room (held + length bs)) (le-ltb 4096 (held + length bs) h) ∙ le-ltb room (held + length bs) k)
@@ -73,236 +76,116 @@ pub strings_line : (room1 room2 line used held : ℕ) (l : List ℕ) (ls : List 
 strings_line room1 room2 line used held [] ls h = absurd (omega arith)
 strings_line room1 room2 line used held (b ∷ bs) ls h = refl
 
-module _ (text : List ℕ) (room1 room2 : ℕ) where
-  -- what the lines from a place on give
-  abbrev rest1 : ℕ → ℕ → ℕ → ℕ → Block (List ℕ × List ℕ)
-  rest1 at line used held = strings_of room1 room2 line used held (lines_of (drop at text))
+-- what is read, before what the lines that are left give: in all W
+module _ (room1 room2 n used held : ℕ) (strings bytes : List ℕ) (ls : List (List ℕ)) (W : Block (List ℕ × List ℕ))
+    (inv : onward_text (take used strings) (take held bytes) (strings_of room1 room2 n used held ls) ≡ W) where
+  closed : strings_of room1 room2 n used held ls ≡ stop n → W ≡ stop n
+  closed e = sym inv ∙ ap (onward_text (take used strings) (take held bytes)) e
 
-  rest1_line : (at line used held : ℕ) → at < length text → 0 < run in_line (drop at text)
-      → rest1 at line used held
-      ≡ cond (leb 280 used || ltb room1 (used + 2)) (stop line)
-      (before_text line room2 held (string_of (line_at text at)) (λ h. rest1 (line_end text at + 1) (line + 1) (used + 2) h))
-  rest1_line at line used held h n =
-      ap (strings_of room1 room2 line used held) (lines_at text at h)
-      ∙ strings_line room1 room2 line used held (line_at text at) (lines_of (drop (line_end text at + 1) text)) (omega (arith, line_length text at))
+  pub text_over : ls ≡ [] → W ≡ stop n
+  text_over e = closed (ap (strings_of room1 room2 n used held) e)
 
-  rest1_many : (at line used held : ℕ) → at < length text → 0 < run in_line (drop at text) → leb 280 used || ltb room1 (used + 2) ≡ true
-      → rest1 at line used held ≡ stop line
-  rest1_many at line used held h n e =
-      rest1_line at line used held h n
-      ∙ ap (λ (t : Bool). cond t (stop line)
-      (before_text line room2 held (string_of (line_at text at)) (λ h. rest1 (line_end text at + 1) (line + 1) (used + 2) h))) e
+  pub text_blank : (l : List ℕ) (rest : List (List ℕ)) → ls ≡ l ∷ rest → length l ≡ 0 → W ≡ got (take used strings, take held bytes) rest (n + 1)
+  text_blank [] rest e h =
+      sym inv
+      ∙ ap (λ (x : List (List ℕ)). onward_text (take used strings) (take held bytes) (strings_of room1 room2 n used held x)) e
+      ∙ ap (λ (x : List ℕ). got (x, (take held bytes ++ [])) rest (n + 1)) (append-nil (take used strings))
+      ∙ ap (λ (x : List ℕ). got (take used strings, x) rest (n + 1)) (append-nil (take held bytes))
+  text_blank (b ∷ bs) rest e h = absurd (omega arith)
 
-  rest1_string : (at line used held : ℕ) → at < length text → 0 < run in_line (drop at text) → used < 280 → used + 2 ≤ room1
-      → rest1 at line used held
-      ≡ before_text line room2 held (string_of (line_at text at)) (λ h. rest1 (line_end text at + 1) (line + 1) (used + 2) h)
-  rest1_string at line used held h n m k =
-      rest1_line at line used held h n
-      ∙ ap (λ (t : Bool). cond t (stop line)
-      (before_text line room2 held (string_of (line_at text at)) (λ h. rest1 (line_end text at + 1) (line + 1) (used + 2) h)))
-      (limits_none 280 used room1 (used + 2) m k)
+  module _ (l : List ℕ) (rest : List (List ℕ)) (lines : ls ≡ l ∷ rest) (some : 0 < length l) where
+    opened : strings_of room1 room2 n used held ls
+        ≡ cond (leb 280 used || ltb room1 (used + 2)) (stop n)
+        (before_text n room2 held (string_of l) (λ h. strings_of room1 room2 (n + 1) (used + 2) h rest))
+    opened = ap (strings_of room1 room2 n used held) lines ∙ strings_line room1 room2 n used held l rest some
 
--- what the lines gave in all
-pub record Ends1 (text : List ℕ) (room1 room2 at₀ line₀ : ℕ) (ws cs : List ℕ) (p : Place) : Type 0 where
-  pub numbered : line₀ ≤ at₀ + 1 → Numbered p
-  pub strings : line₀ ≤ at₀ + 1 → block_at text p (ws, cs) ≡ strings_of room1 room2 line₀ 0 0 (lines_of (drop at₀ text))
+    limited : leb 280 used || ltb room1 (used + 2) ≡ true → W ≡ stop n
+    limited e =
+        closed (opened ∙ ap (λ (t : Bool). cond t (stop n) (before_text n room2 held (string_of l) (λ h. strings_of room1 room2 (n + 1) (used + 2) h rest))) e)
 
--- what is left to read follows what is read
-pub record Before (text : List ℕ) (room1 room2 at₀ line₀ at line used held : ℕ) (strings bytes : List ℕ) : Type 0 where
-  pub numbered : line₀ ≤ at₀ + 1 → line ≤ at + 1
-  pub follows : line₀ ≤ at₀ + 1
-      → onward_text (take used strings) (take held bytes) (strings_of room1 room2 line used held (lines_of (drop at text)))
-      ≡ strings_of room1 room2 line₀ 0 0 (lines_of (drop at₀ text))
+    pub text_many : 280 ≤ used → W ≡ stop n
+    text_many h = limited (limits_first 280 used (ltb room1 (used + 2)) h)
 
-pub before_start : (text : List ℕ) (room1 room2 at line : ℕ) (strings bytes : List ℕ) → Before text room1 room2 at line at line 0 0 strings bytes
-before_start text room1 room2 at line strings bytes = record {
-  numbered = λ k. k;
-  follows = λ k. sym (onward_none (strings_of room1 room2 line 0 0 (lines_of (drop at text))));
-}
+    within : used < 280 → used + 2 ≤ room1
+        → strings_of room1 room2 n used held ls ≡ before_text n room2 held (string_of l) (λ h. strings_of room1 room2 (n + 1) (used + 2) h rest)
+    within h k =
+        opened
+        ∙ ap (λ (t : Bool). cond t (stop n) (before_text n room2 held (string_of l) (λ h. strings_of room1 room2 (n + 1) (used + 2) h rest)))
+        (limits_none 280 used room1 (used + 2) h k)
 
-module _ (text : List ℕ) (room1 room2 at₀ line₀ at line used held : ℕ) (strings bytes : List ℕ) (small : length text < 9223372036854775808)
-    (up : Before text room1 room2 at₀ line₀ at line used held strings bytes) where
-  pub closed1 : (strings' bytes' : List ℕ) → strings_of room1 room2 line used held (lines_of (drop at text)) ≡ stop line
-      → Ends1 text room1 room2 at₀ line₀ (take used strings') (take held bytes') (stopped_at line)
-  closed1 strings' bytes' e = record {
-    numbered = λ n. λ g. absurd (true≢false (sym g));
-    strings = λ n. sym (ap (onward_text (take used strings) (take held bytes)) e) ∙ up.follows n;
-  }
+    -- a line that `string_entry` refused
+    pub text_refused : (strings' bytes' : List ℕ) (r : Option ℕ) → used < 280 → Entered l strings used bytes held strings' bytes' r → r ≡ None
+        → length strings ≡ room1 → length bytes ≡ room2 → W ≡ stop n
+    text_refused strings' bytes' r h x u y z = why (ltb room1 (used + 2)) refl
+      where
+        entered : Entered l strings used bytes held strings' bytes' None
+        entered = subst (λ (t : Option ℕ). Entered l strings used bytes held strings' bytes' t) u x
 
-  next_line : line₀ ≤ at₀ + 1 → at < length text → counted line ≡ line + 1
-  next_line k h = counted_small line (omega (arith, up.numbered k))
+        full : used + 2 ≤ room1 → (bs : List ℕ) → string_of l ≡ Some bs → (4096 < held + length bs) ⊎ (room2 < held + length bs)
+        full f bs s =
+            ⊎_elim (λ k. absurd (omega arith))
+            (λ k. ⊎_elim (λ m. inl m) (λ m. inr (omega arith)) (k bs s))
+            entered
 
-  next_place : (e : ℕ) → e ≡ line_end text at → at < length text → counted e ≡ line_end text at + 1
-  next_place e q h = counted_small e (omega (arith, end_small text at h small)) ∙ ap (λ (i : ℕ). i + 1) q
+        why : (t : Bool) → ltb room1 (used + 2) ≡ t → W ≡ stop n
+        why true k = limited (limits_second (leb 280 used) room1 (used + 2) (ltb-true room1 (used + 2) k))
+        why false k =
+            let f = ltb-false room1 (used + 2) k in
+            closed (within h f ∙ no_room room2 held n (string_of l) (λ i. strings_of room1 room2 (n + 1) (used + 2) i rest) (full f))
 
-  pub blank1 : at < length text → (e : ℕ) → e ≡ line_end text at → e ≡ at
-      → Ends1 text room1 room2 at₀ line₀ (take used strings) (take held bytes) (after_at e line)
-  blank1 h e q n = record {
-    numbered = λ k. λ g. omega (arith, up.numbered k, next_line k h, next_place e q h);
-    strings = λ k.
-        ap (λ (i : ℕ). got (take used strings, take held bytes) (lines_of (drop i text)) (counted line)) (next_place e q h)
-        ∙ ap (λ (i : ℕ). got (take used strings, take held bytes) (lines_of (drop (line_end text at + 1) text)) i) (next_line k h)
-        ∙ ap (λ (l : List ℕ). got (l, take held bytes) (lines_of (drop (line_end text at + 1) text)) (line + 1)) (sym (append-nil (take used strings)))
-        ∙ ap (λ (l : List ℕ). got ((take used strings ++ []), l) (lines_of (drop (line_end text at + 1) text)) (line + 1)) (sym (append-nil (take held bytes)))
-        ∙ ap (onward_text (take used strings) (take held bytes)) (sym over)
-        ∙ up.follows k;
-  }
-    where
-      empty : run in_line (drop at text) ≡ 0
-      empty = omega arith
+    -- a line that `string_entry` stored
+    pub text_further : (strings' bytes' : List ℕ) (k : ℕ) (r : Option ℕ) → used < 280 → held ≤ room2 → Entered l strings used bytes held strings' bytes' r → r ≡ Some k
+        → length strings ≡ room1 → length bytes ≡ room2 → length bytes' ≡ length bytes
+        → (onward_text (take (used + 2) strings') (take k bytes') (strings_of room1 room2 (n + 1) (used + 2) k rest) ≡ W)
+        × (used + 2 ≤ length strings) × (k ≤ length bytes) × (drop (used + 2) strings' ≡ drop (used + 2) strings) × (held ≤ k) × (drop k bytes' ≡ drop k bytes)
+    text_further strings' bytes' k r h b x u y z w = (follows, entered.0, entered.3, past, entered.1, entered.7)
+      where
+        entered : Entered l strings used bytes held strings' bytes' (Some k)
+        entered = subst (λ (t : Option ℕ). Entered l strings used bytes held strings' bytes' t) u x
 
-      over : strings_of room1 room2 line used held (lines_of (drop at text)) ≡ got ([], []) (lines_of (drop (line_end text at + 1) text)) (line + 1)
-      over =
-          ap (strings_of room1 room2 line used held)
-          (lines_at text at h ∙ ap (λ (n : ℕ). take n (drop at text) ∷ lines_of (drop (line_end text at + 1) text)) empty)
+        new : List ℕ
+        new = take (k - held) (drop held bytes')
 
-  pub most1 : at < length text → (e : ℕ) → e ≡ line_end text at → (e ≡ at → ⊥) → 280 ≤ used
-      → Ends1 text room1 room2 at₀ line₀ (take used strings) (take held bytes) (stopped_at line)
-  most1 h e q n m = closed1 strings bytes
-      (rest1_many text room1 room2 at line used held h (omega arith) (limits_first 280 used (ltb room1 (used + 2)) m))
+        size : length new ≡ k - held
+        size = omega (arith, length-take (k - held) (drop held bytes'), length-drop held bytes', entered.3)
 
-  pub end1 : length text ≤ at → Ends1 text room1 room2 at₀ line₀ (take used strings) (take held bytes) (stopped_at line)
-  end1 h = closed1 strings bytes (ap (strings_of room1 room2 line used held) (lines_over text at h))
+        total : held + length new ≡ k
+        total = omega (arith, size, entered.1)
 
-  -- a line that `string_entry` refused
-  pub refused1 : (strings' bytes' : List ℕ) (e : ℕ) (r : Held) → at < length text → e ≡ line_end text at → at < e → used < 280
-      → Entered (take (e - at) (drop at text)) strings used bytes held strings' bytes' r → r ≡ Unread → length strings ≡ room1 → length bytes ≡ room2
-      → Ends1 text room1 room2 at₀ line₀ (take used strings') (take held bytes') (stopped_at line)
-  refused1 strings' bytes' e r h q n m x u y z = closed1 strings' bytes' (why (ltb room1 (used + 2)) refl)
-    where
-      entered : Entered (take (e - at) (drop at text)) strings used bytes held strings' bytes' Unread
-      entered = subst (λ (t : Held). Entered (take (e - at) (drop at text)) strings used bytes held strings' bytes' t) u x
+        words : take (used + 2) strings' ≡ take used strings ++ (held ∷ length new ∷ [])
+        words =
+            ap (λ (l : List ℕ). take (used + 2) l) entered.6
+            ∙ pair_set strings used held (k - held) entered.0
+            ∙ ap (λ (i : ℕ). take used strings ++ (held ∷ i ∷ [])) (sym size)
 
-      width : e - at ≡ run in_line (drop at text)
-      width = omega arith
+        held_bytes : take k bytes' ≡ take held bytes ++ new
+        held_bytes =
+            let e : k ≡ held + (k - held) = omega (arith, entered.1) in
+            ap (λ (i : ℕ). take i bytes') e
+            ∙ take-add held (k - held) bytes'
+            ∙ ap (λ (l : List ℕ). l ++ new) entered.5
 
-      full : used + 2 ≤ room1 → (bs : List ℕ) → string_of (line_at text at) ≡ some bs → (4096 < held + length bs) ⊎ (room2 < held + length bs)
-      full f bs s =
-          ⊎_elim (λ k. absurd (omega arith))
-          (λ k. ⊎_elim (λ m. inl m) (λ m. inr (omega arith)) (k bs (ap (λ (w : ℕ). string_of (take w (drop at text))) width ∙ s)))
-          entered.2
+        read : strings_of room1 room2 n used held ls
+            ≡ onward_text (held ∷ length new ∷ []) new (strings_of room1 room2 (n + 1) (used + 2) (held + length new) rest)
+        read =
+            within h (omega (arith, entered.0))
+            ∙ ap (λ (o : Option (List ℕ)). before_text n room2 held o (λ i. strings_of room1 room2 (n + 1) (used + 2) i rest)) entered.4
+            ∙ with_room room2 held n new (λ i. strings_of room1 room2 (n + 1) (used + 2) i rest) (omega (arith, size, entered.1, entered.2))
+            (omega (arith, size, entered.1, entered.3))
 
-      why : (t : Bool) → ltb room1 (used + 2) ≡ t → strings_of room1 room2 line used held (lines_of (drop at text)) ≡ stop line
-      why true k = rest1_many text room1 room2 at line used held h (omega arith)
-          (limits_second (leb 280 used) room1 (used + 2) (ltb-true room1 (used + 2) k))
-      why false k =
-          let f = ltb-false room1 (used + 2) k in
-          rest1_string text room1 room2 at line used held h (omega arith) m f
-          ∙ no_room room2 held line (string_of (line_at text at)) (λ i. strings_of room1 room2 (line + 1) (used + 2) i (lines_of (drop (line_end text at + 1) text)))
-          (full f)
+        follows : onward_text (take (used + 2) strings') (take k bytes') (strings_of room1 room2 (n + 1) (used + 2) k rest) ≡ W
+        follows =
+            ap (λ (j : ℕ). onward_text (take (used + 2) strings') (take k bytes') (strings_of room1 room2 (n + 1) (used + 2) j rest)) (sym total)
+            ∙ ap (λ (l : List ℕ). onward_text l (take k bytes') (strings_of room1 room2 (n + 1) (used + 2) (held + length new) rest)) words
+            ∙ ap (λ (l : List ℕ). onward_text (take used strings ++ (held ∷ length new ∷ [])) l
+            (strings_of room1 room2 (n + 1) (used + 2) (held + length new) rest)) held_bytes
+            ∙ sym (onward_twice (take used strings) (held ∷ length new ∷ []) (take held bytes) new
+            (strings_of room1 room2 (n + 1) (used + 2) (held + length new) rest))
+            ∙ ap (onward_text (take used strings) (take held bytes)) (sym read)
+            ∙ inv
 
-  -- a line that `string_entry` stored
-  pub further1 : (strings' bytes' : List ℕ) (e k : ℕ) (r : Held) → at < length text → e ≡ line_end text at → at < e → used < 280 → held ≤ room2
-      → Entered (take (e - at) (drop at text)) strings used bytes held strings' bytes' r → r ≡ Bytes k → length strings ≡ room1 → length bytes ≡ room2
-      → length bytes' ≡ length bytes → Before text room1 room2 at₀ line₀ (counted e) (counted line) (used + 2) k strings' bytes'
-  further1 strings' bytes' e k r h q n m b x u y z w = record {
-    numbered = λ i. omega (arith, up.numbered i, next_line i h, next_place e q h);
-    follows = λ i.
-        ap (λ (j : ℕ). onward_text (take (used + 2) strings') (take k bytes') (strings_of room1 room2 (counted line) (used + 2) k (lines_of (drop j text))))
-        (next_place e q h)
-        ∙ ap (λ (j : ℕ). onward_text (take (used + 2) strings') (take k bytes') (strings_of room1 room2 j (used + 2) k later)) (next_line i h)
-        ∙ ap (λ (j : ℕ). onward_text (take (used + 2) strings') (take k bytes') (strings_of room1 room2 (line + 1) (used + 2) j later)) (sym total)
-        ∙ ap (λ (l : List ℕ). onward_text l (take k bytes') (strings_of room1 room2 (line + 1) (used + 2) (held + length new) later)) words
-        ∙ ap (λ (l : List ℕ). onward_text (take used strings ++ (held ∷ length new ∷ [])) l
-        (strings_of room1 room2 (line + 1) (used + 2) (held + length new) later)) held_bytes
-        ∙ sym (onward_twice (take used strings) (held ∷ length new ∷ []) (take held bytes) new
-        (strings_of room1 room2 (line + 1) (used + 2) (held + length new) later))
-        ∙ ap (onward_text (take used strings) (take held bytes)) (sym read)
-        ∙ up.follows i;
-  }
-    where
-      entered : Entered (take (e - at) (drop at text)) strings used bytes held strings' bytes' (Bytes k)
-      entered = subst (λ (t : Held). Entered (take (e - at) (drop at text)) strings used bytes held strings' bytes' t) u x
-
-      later : List (List ℕ)
-      later = lines_of (drop (line_end text at + 1) text)
-
-      new : List ℕ
-      new = take (k - held) (drop held bytes')
-
-      size : length new ≡ k - held
-      size = omega (arith, length-take (k - held) (drop held bytes'), length-drop held bytes', entered.3)
-
-      total : held + length new ≡ k
-      total = omega (arith, size, entered.1)
-
-      width : e - at ≡ run in_line (drop at text)
-      width = omega arith
-
-      found : string_of (line_at text at) ≡ some new
-      found = ap (λ (i : ℕ). string_of (take i (drop at text))) (sym width) ∙ entered.4
-
-      words : take (used + 2) strings' ≡ take used strings ++ (held ∷ length new ∷ [])
-      words =
-          ap (λ (l : List ℕ). take (used + 2) l) entered.6
-          ∙ pair_set strings used held (k - held) entered.0
-          ∙ ap (λ (i : ℕ). take used strings ++ (held ∷ i ∷ [])) (sym size)
-
-      held_bytes : take k bytes' ≡ take held bytes ++ new
-      held_bytes =
-          let e : k ≡ held + (k - held) = omega (arith, entered.1) in
-          ap (λ (i : ℕ). take i bytes') e
-          ∙ take-add held (k - held) bytes'
-          ∙ ap (λ (l : List ℕ). l ++ new) entered.5
-
-      read : strings_of room1 room2 line used held (lines_of (drop at text))
-          ≡ onward_text (held ∷ length new ∷ []) new (strings_of room1 room2 (line + 1) (used + 2) (held + length new) later)
-      read =
-          rest1_string text room1 room2 at line used held h (omega arith) m (omega (arith, entered.0))
-          ∙ ap (λ (o : Option (List ℕ)). before_text line room2 held o (λ i. strings_of room1 room2 (line + 1) (used + 2) i later)) found
-          ∙ with_room room2 held line new (λ i. strings_of room1 room2 (line + 1) (used + 2) i later) (omega (arith, size, entered.1, entered.2))
-          (omega (arith, size, entered.1, entered.3))
-
-pub moved1 : {text : List ℕ} {room1 room2 at₀ line₀ at line used held : ℕ} {strings bytes : List ℕ} {x y : ℕ} → x ≡ at → y ≡ line
-    → Before text room1 room2 at₀ line₀ at line used held strings bytes → Before text room1 room2 at₀ line₀ x y used held strings bytes
-moved1 {text} {room1} {room2} {at₀} {line₀} {at} {line} {used} {held} {strings} {bytes} {x} {y} p q u =
-    subst (λ (n : ℕ). Before text room1 room2 at₀ line₀ n y used held strings bytes) (sym p)
-    (subst (λ (n : ℕ). Before text room1 room2 at₀ line₀ at n used held strings bytes) (sym q) u)
-
-pub ends_at1 : {text : List ℕ} {room1 room2 at line : ℕ} {ws cs : List ℕ} {p q : Place} → q ≡ p
-    → Ends1 text room1 room2 at line ws cs p → Ends1 text room1 room2 at line ws cs q
-ends_at1 {text} {room1} {room2} {at} {line} {ws} {cs} e r = subst (λ (x : Place). Ends1 text room1 room2 at line ws cs x) (sym e) r
-
-pub texted : {text : List ℕ} {from : Place} {strings₀ bytes₀ strings bytes : List ℕ} {used held : ℕ} {p : Place} → from.good ≡ true
-    → used ≤ length strings → held ≤ length bytes → (p.good ≡ true → drop used strings ≡ drop used strings₀)
-    → (p.good ≡ true → drop held bytes ≡ drop held bytes₀)
-    → Ends1 text (length strings₀) (length bytes₀) from.at from.line (take used strings) (take held bytes) p
-    → Texted text from strings₀ bytes₀ strings bytes (record { used = used; held = held; place = p })
-texted g k h past_words past_bytes ends = record {
-  passed = λ e. absurd (true≢false (sym g ∙ e));
-  inside = k;
-  within = h;
-  numbered = λ n. ends.numbered (n g);
-  strings = λ e n. ends.strings (n g);
-  past_words = past_words;
-  past_bytes = past_bytes;
-}
-
-pub texted_from : {text : List ℕ} {from to : Place} {strings₀ bytes₀ strings bytes : List ℕ} {r : Texts} → from ≡ to
-    → Texted text from strings₀ bytes₀ strings bytes r → Texted text to strings₀ bytes₀ strings bytes r
-texted_from {text} {from} {to} {strings₀} {bytes₀} {strings} {bytes} {r} e l =
-    subst (λ (x : Place). Texted text x strings₀ bytes₀ strings bytes r) e l
-
-pub entered_room : (line strings : List ℕ) (used : ℕ) (bytes : List ℕ) (held : ℕ) (strings' bytes' : List ℕ) (r : Held) (k : ℕ)
-    → Entered line strings used bytes held strings' bytes' r → r ≡ Bytes k → held ≤ length bytes → k ≤ length bytes
-entered_room line strings used bytes held strings' bytes' r k x u h =
-    let e = subst (λ (t : Held). Entered line strings used bytes held strings' bytes' t) u x in
-    omega (arith, e.1, e.3)
-
-pub entered_fits : (line strings : List ℕ) (used : ℕ) (bytes : List ℕ) (held : ℕ) (strings' bytes' : List ℕ) (r : Held) (k : ℕ)
-    → Entered line strings used bytes held strings' bytes' r → r ≡ Bytes k → used + 2 ≤ length strings
-entered_fits line strings used bytes held strings' bytes' r k x u =
-    let e = subst (λ (t : Held). Entered line strings used bytes held strings' bytes' t) u x in e.0
-
--- what `string_entry` stored leaves the words and bytes after it
-pub entered_past : (line strings : List ℕ) (used : ℕ) (bytes : List ℕ) (held : ℕ) (strings' bytes' : List ℕ) (r : Held) (k : ℕ)
-    → Entered line strings used bytes held strings' bytes' r → r ≡ Bytes k
-    → (drop (used + 2) strings' ≡ drop (used + 2) strings) × (held ≤ k) × (drop k bytes' ≡ drop k bytes)
-entered_past line strings used bytes held strings' bytes' r k x u =
-    let e = subst (λ (t : Held). Entered line strings used bytes held strings' bytes' t) u x in (
-      ap (drop (used + 2)) e.6
-          ∙ drop-set-lt (used + 2) (set strings used held) (used + 1) (k - held) (omega arith)
-          ∙ drop-set-lt (used + 2) strings used held (omega arith),
-      e.1,
-      e.7,
-    )
+        past : drop (used + 2) strings' ≡ drop (used + 2) strings
+        past =
+            ap (drop (used + 2)) entered.6
+            ∙ drop-set-lt (used + 2) (set strings used held) (used + 1) (k - held) (omega arith)
+            ∙ drop-set-lt (used + 2) strings used held (omega arith)

@@ -1,4 +1,5 @@
 pub mod Read
+pub mod Lines
 pub mod Text
 pub mod Places
 pub mod Print

@@ -1,11 +1,10 @@
 -- What is printed: bytes into a lent buffer from a place on, and the texts of numbers. Definitions only.
-use Rattle.std.specs.Prelude.{Bool, true, false, cond, List, [], ◌∷◌, ◌++◌, ◌≡◌, ℕ, zero, suc, ◌+◌, ◌-◌, ◌*◌, ◌/◌, ◌%◌, ◌^◌, ◌≤◌, ◌<◌, min, length, set, get_or, drop, ltb, eqb}
+use Rattle.std.specs.Prelude.{Option, Some, None, Bool, true, false, cond, List, [], ◌∷◌, ◌++◌, ◌≡◌, ℕ, zero, suc, ◌+◌, ◌-◌, ◌*◌, ◌/◌, ◌%◌, ◌^◌, ◌≤◌, ◌<◌, min, length, set, get_or, drop, ltb, eqb}
 use Rattle.opcode.specs.Names.{bytes, name}
 use Rattle.opcode.specs.Kinds.{operand_kind}
 use Rattle.opcode.specs.declared.opcode.OperandKind.{OperandKind}
 use Rattle.opcode.specs.declared.opcode.OperandKind.TheVariants as operand
-use Rattle.opcode.specs.declared.tables.KindLookup.{KindLookup}
-use Rattle.opcode.specs.declared.tables.KindLookup.TheVariants.{Found, Absent}
+use Rattle.listing.specs.declared.text.Writer.{Writer}
 use Rattle.tables.specs.Record.{word, size}
 use Rattle.tables.specs.Forest.{first, next}
 use Rattle.tables.specs.Semantic.{symbol_name}
@@ -18,6 +17,10 @@ wrote (b ∷ bs) out at = cond (ltb at (length out)) (wrote bs (set out at b) (a
 -- the buffer and the place after a text is written
 pub record Wrote (text out : List ℕ) (at : ℕ) (new : List ℕ) (to : ℕ) : Type 0 where
   pub by : wrote text out at ≡ (new, to)
+
+-- the writer after a text is written
+unfoldable pub after : List ℕ → Writer → Writer
+after text w = record w { out = record w.out { now = (wrote text w.out.now w.at).0 }; at = (wrote text w.out.now w.at).1 }
 
 -- the last decimal digit of n
 abbrev pub digit : ℕ → ℕ
@@ -91,9 +94,9 @@ takes_of operand.Global = true
 takes_of operand.Upvalue = true
 
 -- the same of what the table of kinds answers
-abbrev pub has_operand : KindLookup → Bool
-has_operand (Found kind) = takes_of kind
-has_operand Absent = false
+abbrev pub has_operand : Option OperandKind → Bool
+has_operand (Some kind) = takes_of kind
+has_operand None = false
 
 -- "an empty field as `-`"
 unfoldable pub operand_text : ℕ → ℕ → List ℕ

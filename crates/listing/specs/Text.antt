@@ -1,19 +1,10 @@
 -- genlist's text as a function of its lines (document 01, 'The listing program'; readings 27, 28 and 38): what `read` promises. Definitions only.
-use Rattle.std.specs.Prelude.{◌≡◌, Bool, true, false, cond, ◌||◌, List, [], ◌∷◌, ◌++◌, ℕ, ◌+◌, length, take, drop, leb, ltb, eqb}
-use Rattle.std.proofs.Math.Option.{Option, none, some}
-use Rattle.listing.specs.declared.read.Reading.{Reading}
-use Rattle.listing.specs.declared.read.Reading.TheVariants as reading
+use Rattle.std.specs.Prelude.{◌≡◌, Bool, true, false, cond, ◌||◌, List, [], ◌∷◌, ◌++◌, ℕ, ◌+◌, length, take, drop, leb, ltb, Option, Some, None, Result, Ok, Err}
+use Rattle.listing.specs.declared.read.UnreadLine.{UnreadLine}
+use Rattle.listing.specs.declared.read.Sizes.{Sizes}
+use Rattle.listing.specs.declared.read.Lent.{Lent}
+use Rattle.listing.specs.Lines.{lines_of}
 use Rattle.listing.specs.Read.{values_of, string_of}
-
--- a byte at the start of the first line
-abbrev pub onto : ℕ → List (List ℕ) → List (List ℕ)
-onto b [] = (b ∷ []) ∷ []
-onto b (l ∷ ls) = (b ∷ l) ∷ ls
-
--- a text's lines without their line feeds: what stands after the last line feed is a line only if it is not empty
-abbrev pub lines_of : List ℕ → List (List ℕ)
-lines_of [] = []
-lines_of (b ∷ bs) = cond (eqb b 10) ([] ∷ lines_of bs) (onto b (lines_of bs))
 
 -- the words of the tables, and the bytes of table 2
 pub record Tables : Type 0 where
@@ -52,8 +43,8 @@ onward vs (got ws ls m) = got (vs ++ ws) ls m
 
 -- line n's values, if it can be read, and those of the lines after it
 abbrev pub before : ℕ → Option (List ℕ) → Block (List ℕ) → Block (List ℕ)
-before n none rest = stop n
-before n (some vs) rest = onward vs rest
+before n None rest = stop n
+before n (Some vs) rest = onward vs rest
 
 -- "lines of decimal values in that order, then a blank line", from line n on, so many words being read before; `most` are the words of 140 entries,
 -- `room` those that are lent; the end of the text ends table 7 alone, and otherwise is the line after the last (readings 27 and 28)
@@ -76,8 +67,8 @@ onward_text ws bs (got x ls m) = got ((ws ++ x.0), (bs ++ x.1)) ls m
 
 -- line n's string, its offset and its length, if it can be read and there is room; "4,096 bytes; more, or text it can't read, gives `input`"
 abbrev pub before_text : ℕ → ℕ → ℕ → Option (List ℕ) → (ℕ → Block (List ℕ × List ℕ)) → Block (List ℕ × List ℕ)
-before_text n room held none rest = stop n
-before_text n room held (some bs) rest =
+before_text n room held None rest = stop n
+before_text n room held (Some bs) rest =
     cond (ltb 4096 (held + length bs) || ltb room (held + length bs)) (stop n) (onward_text (held ∷ length bs ∷ []) bs (rest (held + length bs)))
 
 -- "1 (hexadecimal, `-` if empty)", from line n on, so many words and bytes being read before; 140 entries are 280 words
@@ -123,22 +114,21 @@ read_of r text =
       records = records;
     } l n))))))
 
--- the rooms of seven lent tables
-abbrev pub rooms_of : (strings bytes symbols references functions members records : List ℕ) → Rooms
-rooms_of strings bytes symbols references functions members records = record {
-  strings = length strings;
-  bytes = length bytes;
-  symbols = length symbols;
-  references = length references;
-  functions = length functions;
-  members = length members;
-  records = length records;
+-- the words that are lent, and the bytes
+abbrev pub words : Lent → Tables
+words l = record {
+  strings = l.strings.now;
+  bytes = l.bytes.now;
+  symbols = l.symbols.now;
+  references = l.references.now;
+  functions = l.functions.now;
+  members = l.members.now;
+  records = l.records.now;
 }
 
--- the answer: how many words and bytes were read, or the line that can't be read
-abbrev pub reading_of : Outcome → Reading
-reading_of (input line) = reading.Input line
-reading_of (tables t) = reading.Tables record {
+-- how many they are
+abbrev pub rooms_of : Tables → Rooms
+rooms_of t = record {
   strings = length t.strings;
   bytes = length t.bytes;
   symbols = length t.symbols;
@@ -148,34 +138,55 @@ reading_of (tables t) = reading.Tables record {
   records = length t.records;
 }
 
--- lists that begin with the tables
-pub record Begin (t : Tables) (strings' bytes' symbols' references' functions' members' records' : List ℕ) : Type 0 where
-  pub strings : take (length t.strings) strings' ≡ t.strings
-  pub bytes : take (length t.bytes) bytes' ≡ t.bytes
-  pub symbols : take (length t.symbols) symbols' ≡ t.symbols
-  pub references : take (length t.references) references' ≡ t.references
-  pub functions : take (length t.functions) functions' ≡ t.functions
-  pub members : take (length t.members) members' ≡ t.members
-  pub records : take (length t.records) records' ≡ t.records
+-- the answer: how many words and bytes were read, or the line that can't be read
+abbrev pub reading_of : Outcome → Result Sizes UnreadLine
+reading_of (input line) = Err record { line = line }
+reading_of (tables t) = Ok record {
+  strings = length t.strings;
+  bytes = length t.bytes;
+  symbols = length t.symbols;
+  references = length t.references;
+  functions = length t.functions;
+  members = length t.members;
+  records = length t.records;
+}
+
+-- tables that begin with these
+pub record Begin (t t' : Tables) : Type 0 where
+  pub strings : take (length t.strings) t'.strings ≡ t.strings
+  pub bytes : take (length t.bytes) t'.bytes ≡ t.bytes
+  pub symbols : take (length t.symbols) t'.symbols ≡ t.symbols
+  pub references : take (length t.references) t'.references ≡ t.references
+  pub functions : take (length t.functions) t'.functions ≡ t.functions
+  pub members : take (length t.members) t'.members ≡ t.members
+  pub records : take (length t.records) t'.records ≡ t.records
 
 -- what the lent tables hold afterwards: where the text could be read they begin with its tables, else they are free (reading 50)
-abbrev pub Holds : Outcome → (strings' bytes' symbols' references' functions' members' records' : List ℕ) → Type 0
-Holds (input line) strings' bytes' symbols' references' functions' members' records' = Unit
-Holds (tables t) strings' bytes' symbols' references' functions' members' records' = Begin t strings' bytes' symbols' references' functions' members' records'
+abbrev pub Holds : Outcome → Tables → Type 0
+Holds (input line) t' = Unit
+Holds (tables t) t' = Begin t t'
 
--- lists that are as they were past the tables
-pub record Past (t : Tables) (strings₀ bytes₀ symbols₀ references₀ functions₀ members₀ records₀
-    strings' bytes' symbols' references' functions' members' records' : List ℕ) : Type 0 where
-  pub strings : drop (length t.strings) strings' ≡ drop (length t.strings) strings₀
-  pub bytes : drop (length t.bytes) bytes' ≡ drop (length t.bytes) bytes₀
-  pub symbols : drop (length t.symbols) symbols' ≡ drop (length t.symbols) symbols₀
-  pub references : drop (length t.references) references' ≡ drop (length t.references) references₀
-  pub functions : drop (length t.functions) functions' ≡ drop (length t.functions) functions₀
-  pub members : drop (length t.members) members' ≡ drop (length t.members) members₀
-  pub records : drop (length t.records) records' ≡ drop (length t.records) records₀
+-- tables that are as they were past these
+pub record Past (t t₀ t' : Tables) : Type 0 where
+  pub strings : drop (length t.strings) t'.strings ≡ drop (length t.strings) t₀.strings
+  pub bytes : drop (length t.bytes) t'.bytes ≡ drop (length t.bytes) t₀.bytes
+  pub symbols : drop (length t.symbols) t'.symbols ≡ drop (length t.symbols) t₀.symbols
+  pub references : drop (length t.references) t'.references ≡ drop (length t.references) t₀.references
+  pub functions : drop (length t.functions) t'.functions ≡ drop (length t.functions) t₀.functions
+  pub members : drop (length t.members) t'.members ≡ drop (length t.members) t₀.members
+  pub records : drop (length t.records) t'.records ≡ drop (length t.records) t₀.records
 
 -- what else the lent tables hold afterwards: where the text could be read, nothing past its tables is changed
-abbrev pub Stays : Outcome → (strings₀ bytes₀ symbols₀ references₀ functions₀ members₀ records₀ strings' bytes' symbols' references' functions' members' records' : List ℕ) → Type 0
-Stays (input line) strings₀ bytes₀ symbols₀ references₀ functions₀ members₀ records₀ strings' bytes' symbols' references' functions' members' records' = Unit
-Stays (tables t) strings₀ bytes₀ symbols₀ references₀ functions₀ members₀ records₀ strings' bytes' symbols' references' functions' members' records' =
-    Past t strings₀ bytes₀ symbols₀ references₀ functions₀ members₀ records₀ strings' bytes' symbols' references' functions' members' records'
+abbrev pub Stays : Outcome → Tables → Tables → Type 0
+Stays (input line) t₀ t' = Unit
+Stays (tables t) t₀ t' = Past t t₀ t'
+
+-- the slices that were lent are lent still
+pub record SameSlices (l l' : Lent) : Type 0 where
+  pub strings : l'.strings.ghost_name ≡ l.strings.ghost_name
+  pub bytes : l'.bytes.ghost_name ≡ l.bytes.ghost_name
+  pub symbols : l'.symbols.ghost_name ≡ l.symbols.ghost_name
+  pub references : l'.references.ghost_name ≡ l.references.ghost_name
+  pub functions : l'.functions.ghost_name ≡ l.functions.ghost_name
+  pub members : l'.members.ghost_name ≡ l.members.ghost_name
+  pub records : l'.records.ghost_name ≡ l.records.ghost_name

@@ -1,27 +1,43 @@
 // What the listing program prints: the listing of an accepted answer, a refusal, or the line of a text that cannot be read.
-ghost use Rattle.std.specs.Prelude.{◌≡◌, ◌+◌, ◌*◌, ◌/◌, ◌≤◌, ◌<◌, min, length};
+ghost use Rattle.std.specs.Prelude.{◌≡◌, ℕ, List, ◌+◌, ◌*◌, ◌/◌, ◌≤◌, ◌<◌, min, drop, get_or, length};
+ghost use Rattle.std.specs.Borrow.{MutBor};
+ghost use Rattle.listing.specs.declared.text.Writer.{Writer};
 ghost use Rattle.tables.specs.Record.{size as size_of};
-ghost use Rattle.listing.specs.Print.{Wrote, beginning, takes_of, has_operand, operand_text, code_row, code_rows, const_name, const_value, const_row, const_rows};
-ghost use Rattle.listing.specs.Print.{plain_row, plain_rows, capture_name, upvalue_row, upvalue_rows, is_function, record_of, function_kind, optional, last_param, idents};
+ghost use Rattle.listing.specs.Print.{after, rows_from, beginning, takes_of, has_operand, operand_text, code_at, const_name, const_value, const_at};
+ghost use Rattle.listing.specs.Print.{plain_at, capture_name, upvalue_at, is_function, record_of, function_kind, optional, last_param, idents};
 ghost use Rattle.listing.specs.Print.{params as params_text, head_row, loops_row, names_text, function_text, functions_text};
 ghost use Rattle.listing.specs.Print.{error_name, error_row, error_rows, listing_text, refusal_text, input_text};
 
-use crate::text::{hex16, name, number, put, signed, text};
+use crate::text::Writer;
 use opcode::opcode::OperandKind;
-use opcode::tables::{KindLookup, operand_kind};
+use opcode::tables::operand_kind;
 use tables::ast::{detail, first, kind, next, p, q, size};
+use tables::kind::FUNCTION;
 use tables::semantic::{entry, symbol_name};
 
+// What a listing is printed from: two of the tables, and what the call wrote.
+#[derive(Clone, Copy)]
+pub struct Source<'a> {
+    pub symbols: &'a [u32],
+    pub records: &'a [u32],
+    pub markers: &'a [u32],
+    pub constants: &'a [u32],
+    pub names: &'a [u32],
+    pub errors: &'a [u32],
+    pub lines: &'a [u32],
+}
+
 // A row's function, section and place.
-fn begin(out: &mut [u8], at: usize, function: u64, section: &[u8], place: u32) -> usize
-    ensures { Wrote (beginning function section.now place) out.old at out.new result }
+#[tactic(auto, using(crate::proofs::WriterLaws::after_append), unfolding(crate::specs::Print::beginning))]
+fn begin(w: &mut Writer, function: u64, section: &[u8], place: u32)
+    ensures { w.new ≡ after (beginning function section.now place) w.old }
 {
-    let a = number(out, at, function);
-    let b = put(out, a, b' ');
-    let c = text(out, b, section);
-    let d = put(out, c, b' ');
-    let e = number(out, d, place as u64);
-    put(out, e, b' ')
+    w.number(function);
+    w.put(b' ');
+    w.text(section);
+    w.put(b' ');
+    w.number(place as u64);
+    w.put(b' ');
 }
 
 fn takes(kind: OperandKind) -> bool
@@ -39,460 +55,412 @@ fn takes(kind: OperandKind) -> bool
     }
 }
 
-fn has_operand(found: KindLookup) -> bool
+fn has_operand(found: Option<OperandKind>) -> bool
     ensures { result ≡ has_operand found }
 {
-    match found {
-        KindLookup::Found(kind) => takes(kind),
-        KindLookup::Absent => false,
-    }
+    found.is_some_and(takes)
 }
 
 // A code without an operand has `-`.
-fn put_operand(out: &mut [u8], at: usize, code: u32, operand: u32) -> usize
-    ensures { Wrote (operand_text code operand) out.old at out.new result }
+#[tactic(auto, unfolding(crate::specs::Print::operand_text))]
+fn put_operand(w: &mut Writer, code: u32, operand: u32)
+    ensures { w.new ≡ after (operand_text code operand) w.old }
 {
     if has_operand(operand_kind(code)) {
-        return number(out, at, operand as u64);
+        w.number(operand as u64);
+    } else {
+        w.put(b'-');
     }
-    put(out, at, b'-')
 }
 
-fn code_row(out: &mut [u8], at: usize, function: u64, place: u32, code: u32, operand: u32) -> usize
-    ensures { Wrote (code_row function place code operand) out.old at out.new result }
+// A row for each of so many entries.
+fn rows<F: Fn(&mut Writer, u32)>(w: &mut Writer, count: u32, row: F)
+    requires { F.IsAlwaysCallable row }
+    ensures { (text : ℕ → List ℕ) → ((i : ℕ) (u v : MutBor Writer) → F.post row u i tt v → v.now ≡ after (text i) u.now)
+        → w.new ≡ after (rows_from text count 0) w.old }
 {
-    let a = begin(out, at, function, b"code", place);
-    let b = name(out, a, code);
-    let c = put(out, b, b' ');
-    let d = put_operand(out, c, code, operand);
-    text(out, d, b" -\n")
-}
-
-fn codes(out: &mut [u8], at: usize, function: u64, markers: &[u32], count: u32) -> usize
-    ensures { Wrote (code_rows function markers.now count) out.old at out.new result }
-{
-    let mut to = at;
-    let mut i: u32 = 0;
-    while i < count {
-        let j = i as usize * 2;
-        let code = entry(markers, j);
-        let operand = entry(markers, j + 1);
-        to = code_row(out, to, function, i, code, operand);
-        i += 1;
+    for i in 0..count {
+        row(w, i);
     }
-    to
 }
 
-fn const_name(out: &mut [u8], at: usize, kind: u32) -> usize
-    ensures { Wrote (const_name kind) out.old at out.new result }
+// A marker, of two words.
+#[tactic(auto, using(crate::proofs::WriterLaws::after_append), unfolding(crate::specs::Print::code_row))]
+fn code_row(w: &mut Writer, function: u64, place: u32, markers: &[u32])
+    ensures { w.new ≡ after (code_at function markers.now place) w.old }
+{
+    let j = place as usize * 2;
+    let code = entry(markers, j);
+    begin(w, function, b"code", place);
+    w.name(code);
+    w.put(b' ');
+    put_operand(w, code, entry(markers, j + 1));
+    w.text(b" -\n");
+}
+
+// "A const has its kind's name"
+#[tactic(auto, unfolding(crate::specs::Print::const_name))]
+fn const_name(kind: u32) -> &'static [u8]
+    ensures { result.now ≡ const_name kind }
 {
     match kind {
-        0 => text(out, at, b"Null"),
-        1 => text(out, at, b"Bool"),
-        2 => text(out, at, b"Int"),
-        3 => text(out, at, b"Float"),
-        4 => text(out, at, b"Str"),
-        5 => text(out, at, b"Bytes"),
-        6 => text(out, at, b"Function"),
-        7 => text(out, at, b"Effect"),
-        8 => text(out, at, b"Yield"),
-        _ => at,
+        0 => b"Null",
+        1 => b"Bool",
+        2 => b"Int",
+        3 => b"Float",
+        4 => b"Str",
+        5 => b"Bytes",
+        6 => b"Function",
+        7 => b"Effect",
+        8 => b"Yield",
+        _ => b"",
     }
 }
+
+// Kinds of constants whose value is more, or less, than its first word.
+const NULL: u32 = 0;
+
+const INT: u32 = 2;
+
+const FLOAT: u32 = 3;
+
+const YIELD: u32 = 8;
 
 // "`-` for Null and Yield, Int signed, Float 16 small hexadecimal digits, else its first word"
-fn const_value(out: &mut [u8], at: usize, kind: u32, low: u32, high: u32) -> usize
-    ensures { Wrote (const_value kind low high) out.old at out.new result }
+#[tactic(auto, unfolding(crate::specs::Print::const_value))]
+fn const_value(w: &mut Writer, kind: u32, low: u32, high: u32)
+    ensures { w.new ≡ after (const_value kind low high) w.old }
 {
     match kind {
-        0 => put(out, at, b'-'),
-        2 => signed(out, at, high, low),
-        3 => hex16(out, at, high, low),
-        8 => put(out, at, b'-'),
-        _ => number(out, at, low as u64),
+        NULL | YIELD => w.put(b'-'),
+        INT => w.signed(high, low),
+        FLOAT => w.hex16(high, low),
+        _ => w.number(low as u64),
     }
 }
 
-fn const_row(
-    out: &mut [u8],
-    at: usize,
-    function: u64,
-    place: u32,
-    kind: u32,
-    low: u32,
-    high: u32,
-) -> usize
-    ensures { Wrote (const_row function place kind low high) out.old at out.new result }
+// A constant, of three words.
+#[tactic(auto, using(crate::proofs::WriterLaws::after_append), unfolding(crate::specs::Print::const_row))]
+fn const_row(w: &mut Writer, function: u64, place: u32, constants: &[u32])
+    ensures { w.new ≡ after (const_at function constants.now place) w.old }
 {
-    let a = begin(out, at, function, b"const", place);
-    let b = const_name(out, a, kind);
-    let c = put(out, b, b' ');
-    let d = const_value(out, c, kind, low, high);
-    text(out, d, b" -\n")
+    let j = place as usize * 3;
+    let kind = entry(constants, j);
+    begin(w, function, b"const", place);
+    w.text(const_name(kind));
+    w.put(b' ');
+    const_value(w, kind, entry(constants, j + 1), entry(constants, j + 2));
+    w.text(b" -\n");
 }
 
-fn consts(out: &mut [u8], at: usize, function: u64, constants: &[u32], count: u32) -> usize
-    ensures { Wrote (const_rows function constants.now count) out.old at out.new result }
-{
-    let mut to = at;
-    let mut i: u32 = 0;
-    while i < count {
-        let j = i as usize * 3;
-        let kind = entry(constants, j);
-        let low = entry(constants, j + 1);
-        let high = entry(constants, j + 2);
-        to = const_row(out, to, function, i, kind, low, high);
-        i += 1;
-    }
-    to
-}
-
-// A local or a global: its name and its symbol.
+// A local or a global, of three words: its name and its symbol.
+#[tactic(auto, using(crate::proofs::WriterLaws::after_append), unfolding(crate::specs::Print::plain_row))]
 fn plain_row(
-    out: &mut [u8],
-    at: usize,
+    w: &mut Writer,
     function: u64,
     section: &[u8],
     place: u32,
-    string: u32,
-    symbol: u32,
-) -> usize
-    ensures { Wrote (plain_row function section.now place string symbol) out.old at out.new result }
-{
-    let a = begin(out, at, function, section, place);
-    let b = number(out, a, string as u64);
-    let c = text(out, b, b" - ");
-    let d = number(out, c, symbol as u64);
-    put(out, d, b'\n')
-}
-
-fn plains(
-    out: &mut [u8],
-    at: usize,
-    function: u64,
-    section: &[u8],
     symbols: &[u32],
     names: &[u32],
-    count: u32,
-) -> usize
-    ensures { Wrote (plain_rows function section.now symbols.now names.now count) out.old at out.new result }
+)
+    ensures { w.new ≡ after (plain_at function section.now symbols.now names.now place) w.old }
 {
-    let mut to = at;
-    let mut i: u32 = 0;
-    while i < count {
-        let j = i as usize * 3;
-        let symbol = entry(names, j);
-        let string = symbol_name(symbols, symbol as usize);
-        to = plain_row(out, to, function, section, i, string, symbol);
-        i += 1;
-    }
-    to
+    let symbol = entry(names, place as usize * 3);
+    begin(w, function, section, place);
+    w.number(symbol_name(symbols, symbol as usize) as u64);
+    w.text(b" - ");
+    w.number(symbol as u64);
+    w.put(b'\n');
 }
 
-fn capture_name(out: &mut [u8], at: usize, capture: u32) -> usize
-    ensures { Wrote (capture_name capture) out.old at out.new result }
+// The capture word of a local.
+const LOCAL: u32 = 1;
+
+// "capture word"
+#[tactic(auto, unfolding(crate::specs::Print::capture_name))]
+fn capture_name(capture: u32) -> &'static [u8]
+    ensures { result.now ≡ capture_name capture }
 {
-    if capture == 1 {
-        return text(out, at, b"Local");
+    if capture == LOCAL {
+        b"Local"
+    } else {
+        b"Upvalue"
     }
-    text(out, at, b"Upvalue")
 }
 
-fn upvalue_row(
-    out: &mut [u8],
-    at: usize,
-    function: u64,
-    place: u32,
-    symbol: u32,
-    capture: u32,
-    index: u32,
-) -> usize
-    ensures { Wrote (upvalue_row function place symbol capture index) out.old at out.new result }
+// An upvalue, of three words.
+#[tactic(auto, using(crate::proofs::WriterLaws::after_append), unfolding(crate::specs::Print::upvalue_row))]
+fn upvalue_row(w: &mut Writer, function: u64, place: u32, names: &[u32])
+    ensures { w.new ≡ after (upvalue_at function names.now place) w.old }
 {
-    let a = begin(out, at, function, b"upvalue", place);
-    let b = capture_name(out, a, capture);
-    let c = put(out, b, b' ');
-    let d = number(out, c, index as u64);
-    let e = put(out, d, b' ');
-    let f = number(out, e, symbol as u64);
-    put(out, f, b'\n')
-}
-
-fn upvalues(out: &mut [u8], at: usize, function: u64, names: &[u32], count: u32) -> usize
-    ensures { Wrote (upvalue_rows function names.now count) out.old at out.new result }
-{
-    let mut to = at;
-    let mut i: u32 = 0;
-    while i < count {
-        let j = i as usize * 3;
-        let symbol = entry(names, j);
-        let capture = entry(names, j + 1);
-        let index = entry(names, j + 2);
-        to = upvalue_row(out, to, function, i, symbol, capture, index);
-        i += 1;
-    }
-    to
+    let j = place as usize * 3;
+    begin(w, function, b"upvalue", place);
+    w.text(capture_name(entry(names, j + 1)));
+    w.put(b' ');
+    w.number(entry(names, j + 2) as u64);
+    w.put(b' ');
+    w.number(entry(names, j) as u64);
+    w.put(b'\n');
 }
 
 // Whether record r is function n's.
+#[tactic(auto, unfolding(crate::specs::Print::is_function))]
 fn is_function(recs: &[u32], r: usize, n: u64) -> bool
     ensures { result ≡ is_function recs.now n r }
 {
-    if kind(recs, r) == 30 {
-        return p(recs, r) as u64 == n;
-    }
-    false
+    kind(recs, r) == FUNCTION && p(recs, r) as u64 == n
 }
 
 // Function n's record, 0 where there is none.
 fn record_of(recs: &[u32], n: u64) -> usize
     ensures { result ≡ record_of recs.now n }
 {
-    let count = size(recs);
-    let mut r: usize = 0;
-    while r < count {
-        if is_function(recs, r, n) {
-            return r;
-        }
-        r += 1;
-    }
-    0
+    (0..size(recs))
+        .find(|&r| is_function(recs, r, n))
+        .unwrap_or(0)
 }
 
-fn function_kind(out: &mut [u8], at: usize, kind: u32) -> usize
-    ensures { Wrote (function_kind kind) out.old at out.new result }
+// "30 Function (0 Function, 1 Closure, 2 Do"
+#[tactic(auto, unfolding(crate::specs::Print::function_kind))]
+fn function_kind(kind: u32) -> &'static [u8]
+    ensures { result.now ≡ function_kind kind }
 {
     match kind {
-        0 => text(out, at, b"Function"),
-        1 => text(out, at, b"Closure"),
-        2 => text(out, at, b"Do"),
-        _ => at,
+        0 => b"Function",
+        1 => b"Closure",
+        2 => b"Do",
+        _ => b"",
     }
 }
+
+// The word of a name that there is none of.
+const NONE: u32 = 0xffff_ffff;
 
 // A function's name string: none has `-`.
-fn put_optional(out: &mut [u8], at: usize, string: u32) -> usize
-    ensures { Wrote (optional string) out.old at out.new result }
+#[tactic(auto, unfolding(crate::specs::Print::optional))]
+fn put_optional(w: &mut Writer, string: u32)
+    ensures { w.new ≡ after (optional string) w.old }
 {
-    if string == 4294967295 {
-        return put(out, at, b'-');
+    if string == NONE {
+        w.put(b'-');
+    } else {
+        w.number(string as u64);
     }
-    number(out, at, string as u64)
 }
 
+// The detail of parameters that end in a variadic.
+const VARIADIC: u32 = 1;
+
 // "`*` before the variadic", which is the last.
-fn last_param(out: &mut [u8], at: usize, detail: u32, string: u32) -> usize
-    ensures { Wrote (last_param detail string) out.old at out.new result }
+#[tactic(auto, using(crate::proofs::WriterLaws::after_cons), unfolding(crate::specs::Print::last_param))]
+fn last_param(w: &mut Writer, detail: u32, string: u32)
+    ensures { w.new ≡ after (last_param detail string) w.old }
 {
-    if detail == 1 {
-        let a = put(out, at, b'*');
-        return number(out, a, string as u64);
+    if detail == VARIADIC {
+        w.put(b'*');
     }
-    number(out, at, string as u64)
+    w.number(string as u64);
 }
 
 // The name strings of the Idents from record r on, with commas.
-fn put_idents(out: &mut [u8], at: usize, recs: &[u32], detail: u32, from: usize) -> usize
-    ensures { Wrote (idents (size_of recs.now) recs.now detail from) out.old at out.new result }
+fn put_idents(w: &mut Writer, recs: &[u32], detail: u32, from: usize)
+    ensures { w.new ≡ after (idents (size_of recs.now) recs.now detail from) w.old }
 {
-    let mut to = at;
     let mut r = from;
-    let mut left = size(recs);
-    while 0 < left {
+    for i in 0..size(recs) {
         let string = q(recs, r);
-        let n = next(recs, r);
-        if n == 0 {
-            return last_param(out, to, detail, string);
+        r = next(recs, r);
+        if r == 0 {
+            return last_param(w, detail, string);
         }
-        to = number(out, to, string as u64);
-        to = put(out, to, b',');
-        r = n;
-        left -= 1;
+        w.number(string as u64);
+        w.put(b',');
     }
-    to
 }
 
 // The parameters of the Params record: none has `-`.
-fn params(out: &mut [u8], at: usize, recs: &[u32], list: usize) -> usize
-    ensures { Wrote (params_text recs.now list) out.old at out.new result }
+fn params(w: &mut Writer, recs: &[u32], list: usize)
+    ensures { w.new ≡ after (params_text recs.now list) w.old }
 {
     let i = first(recs, list);
     if i == 0 {
-        return put(out, at, b'-');
+        w.put(b'-');
+    } else {
+        put_idents(w, recs, detail(recs, list), i);
     }
-    put_idents(out, at, recs, detail(recs, list), i)
 }
 
-fn head_row(out: &mut [u8], at: usize, function: u64, recs: &[u32]) -> usize
-    ensures { Wrote (head_row function recs.now) out.old at out.new result }
+#[tactic(auto, using(crate::proofs::WriterLaws::after_append), unfolding(crate::specs::Print::head_at))]
+fn head_row(w: &mut Writer, function: u64, recs: &[u32])
+    ensures { w.new ≡ after (head_row function recs.now) w.old }
 {
     let r = record_of(recs, function);
-    let kind = detail(recs, r);
-    let string = q(recs, r);
-    let child = first(recs, r);
-    let a = begin(out, at, function, b"head", 0);
-    let b = function_kind(out, a, kind);
-    let c = put(out, b, b' ');
-    let d = put_optional(out, c, string);
-    let e = put(out, d, b' ');
-    let f = params(out, e, recs, child);
-    put(out, f, b'\n')
+    begin(w, function, b"head", 0);
+    w.text(function_kind(detail(recs, r)));
+    w.put(b' ');
+    put_optional(w, q(recs, r));
+    w.put(b' ');
+    params(w, recs, first(recs, r));
+    w.put(b'\n');
 }
 
-fn loops_row(out: &mut [u8], at: usize, function: u64, depth: u32) -> usize
-    ensures { Wrote (loops_row function depth) out.old at out.new result }
+#[tactic(auto, using(crate::proofs::WriterLaws::after_append), unfolding(crate::specs::Print::loops_row))]
+fn loops_row(w: &mut Writer, function: u64, depth: u32)
+    ensures { w.new ≡ after (loops_row function depth) w.old }
 {
-    let a = begin(out, at, function, b"head", 1);
-    let b = text(out, a, b"Loops ");
-    let c = number(out, b, depth as u64);
-    text(out, c, b" -\n")
+    begin(w, function, b"head", 1);
+    w.text(b"Loops ");
+    w.number(depth as u64);
+    w.text(b" -\n");
 }
 
-// So many words further on, and no further than the last.
-fn skip(at: usize, by: usize, limit: usize) -> usize
-    ensures { result ≡ min (at + by) limit }
+// What is left after so many words.
+fn skip(words: &[u32], by: usize) -> &[u32]
+    ensures { result.now ≡ drop by words.now }
 {
-    if at < limit {
-        if by < limit - at {
-            return at + by;
-        }
+    &words[by.min(words.len())..]
+}
+
+// A function's line: how many markers, constants and names are its own, and how deep its loops go.
+#[derive(Clone, Copy)]
+struct Line {
+    markers: u32,
+    constants: u32,
+    locals: u32,
+    globals: u32,
+    upvalues: u32,
+    depth: u32,
+}
+
+fn first_line(words: &[u32]) -> Line
+    ensures markers { result.markers ≡ get_or words.now 0 0 }
+    ensures constants { result.constants ≡ get_or words.now 2 0 }
+    ensures locals { result.locals ≡ get_or words.now 3 0 }
+    ensures globals { result.globals ≡ get_or words.now 4 0 }
+    ensures upvalues { result.upvalues ≡ get_or words.now 5 0 }
+    ensures depth { result.depth ≡ get_or words.now 6 0 }
+{
+    Line {
+        markers: entry(words, 0),
+        constants: entry(words, 2),
+        locals: entry(words, 3),
+        globals: entry(words, 4),
+        upvalues: entry(words, 5),
+        depth: entry(words, 6),
     }
-    limit
 }
 
 // A function's names: its locals, globals and upvalues.
-fn names_rows(
-    out: &mut [u8],
-    at: usize,
-    function: u64,
-    symbols: &[u32],
-    names: &[u32],
-    locals: u32,
-    globals: u32,
-    captured: u32,
-) -> usize
-    ensures { Wrote (names_text function symbols.now names.now locals globals captured) out.old at out.new result }
+fn names_rows(w: &mut Writer, function: u64, symbols: &[u32], names: &[u32], l: Line)
+    ensures { w.new ≡ after (names_text function symbols.now names.now l.locals l.globals l.upvalues) w.old }
 {
-    let a = plains(out, at, function, b"local", symbols, names, locals);
-    let i = skip(0, locals as usize * 3, names.len());
-    let b = plains(out, a, function, b"global", symbols, &names[i..], globals);
-    let j = skip(i, globals as usize * 3, names.len());
-    upvalues(out, b, function, &names[j..], captured)
+    rows(
+        w,
+        l.locals,
+        |w, i| plain_row(w, function, b"local", i, symbols, names),
+    );
+    let left = skip(names, l.locals as usize * 3);
+    rows(
+        w,
+        l.globals,
+        |w, i| plain_row(w, function, b"global", i, symbols, left),
+    );
+    let last = skip(left, l.globals as usize * 3);
+    rows(w, l.upvalues, |w, i| upvalue_row(w, function, i, last));
 }
 
 // A function's rows, from its line's, markers', constants' and names' first words on.
-fn function_rows(
-    out: &mut [u8],
-    at: usize,
-    function: u64,
-    symbols: &[u32],
-    recs: &[u32],
-    line: &[u32],
-    markers: &[u32],
-    constants: &[u32],
-    names: &[u32],
-) -> usize
-    ensures { Wrote (function_text function symbols.now recs.now line.now markers.now
-        constants.now names.now) out.old at out.new result }
+fn function_rows(w: &mut Writer, function: u64, s: &Source)
+    ensures { w.new ≡ after (function_text function s.now.symbols.now s.now.records.now s.now.lines.now
+        s.now.markers.now s.now.constants.now s.now.names.now) w.old }
 {
-    let depth = entry(line, 6);
-    let count = entry(line, 0);
-    let held = entry(line, 2);
-    let locals = entry(line, 3);
-    let globals = entry(line, 4);
-    let captured = entry(line, 5);
-    let a = head_row(out, at, function, recs);
-    let b = loops_row(out, a, function, depth);
-    let c = codes(out, b, function, markers, count);
-    let d = consts(out, c, function, constants, held);
-    names_rows(out, d, function, symbols, names, locals, globals, captured)
+    let l = first_line(s.lines);
+    head_row(w, function, s.records);
+    loops_row(w, function, l.depth);
+    rows(w, l.markers, |w, i| code_row(w, function, i, s.markers));
+    rows(
+        w,
+        l.constants,
+        |w, i| const_row(w, function, i, s.constants),
+    );
+    names_rows(w, function, s.symbols, s.names, l);
+}
+
+// What is left after the words of a function.
+fn rest<'a>(s: &Source<'a>) -> Source<'a>
+    ensures symbols { result.symbols.now ≡ s.now.symbols.now }
+    ensures records { result.records.now ≡ s.now.records.now }
+    ensures lines { result.lines.now ≡ drop 7 s.now.lines.now }
+    ensures markers { result.markers.now ≡ drop (get_or s.now.lines.now 0 0 * 2) s.now.markers.now }
+    ensures constants { result.constants.now ≡ drop (get_or s.now.lines.now 2 0 * 3) s.now.constants.now }
+    ensures names { result.names.now ≡ drop ((get_or s.now.lines.now 3 0 + get_or s.now.lines.now 4 0
+        + get_or s.now.lines.now 5 0) * 3) s.now.names.now }
+{
+    let l = first_line(s.lines);
+    let named = l.locals as usize + l.globals as usize + l.upvalues as usize;
+    Source {
+        lines: skip(s.lines, 7),
+        markers: skip(s.markers, l.markers as usize * 2),
+        constants: skip(s.constants, l.constants as usize * 3),
+        names: skip(s.names, named * 3),
+        ..*s
+    }
 }
 
 // The rows of the functions met, in order of their numbers.
-fn functions_rows(
-    out: &mut [u8],
-    at: usize,
-    symbols: &[u32],
-    recs: &[u32],
-    lines: &[u32],
-    markers: &[u32],
-    constants: &[u32],
-    names: &[u32],
-    count: usize,
-) -> usize
-    requires { count * 7 ≤ length lines.now }
-    ensures { Wrote (functions_text count 0 symbols.now recs.now lines.now markers.now
-        constants.now names.now) out.old at out.new result }
+fn functions_rows(w: &mut Writer, s: &Source, count: usize)
+    ensures { w.new ≡ after (functions_text count 0 s.now.symbols.now s.now.records.now s.now.lines.now
+        s.now.markers.now s.now.constants.now s.now.names.now) w.old }
 {
-    let mut to = at;
-    let mut f: usize = 0;
-    let mut m: usize = 0;
-    let mut k: usize = 0;
-    let mut n: usize = 0;
-    while f < count {
-        let l = f * 7;
-        to = function_rows(
-            out,
-            to,
-            f as u64,
-            symbols,
-            recs,
-            &lines[l..],
-            &markers[m..],
-            &constants[k..],
-            &names[n..],
-        );
-        m = skip(m, entry(lines, l) as usize * 2, markers.len());
-        k = skip(k, entry(lines, l + 2) as usize * 3, constants.len());
-        let owned = entry(lines, l + 3) as usize
-            + entry(lines, l + 4) as usize
-            + entry(lines, l + 5) as usize;
-        n = skip(n, owned * 3, names.len());
-        f += 1;
+    let mut left = *s;
+    for f in 0..count {
+        function_rows(w, f as u64, &left);
+        left = rest(&left);
     }
-    to
 }
 
-fn error_name(out: &mut [u8], at: usize, kind: u32) -> usize
-    ensures { Wrote (error_name kind) out.old at out.new result }
+// "kind 0 Break, 1 Continue, 2 Return"
+#[tactic(auto, unfolding(crate::specs::Print::error_name))]
+fn error_name(kind: u32) -> &'static [u8]
+    ensures { result.now ≡ error_name kind }
 {
     match kind {
-        0 => text(out, at, b"BreakOutsideLoop"),
-        1 => text(out, at, b"ContinueOutsideLoop"),
-        2 => text(out, at, b"ReturnOutsideFunction"),
-        _ => at,
+        0 => b"BreakOutsideLoop",
+        1 => b"ContinueOutsideLoop",
+        2 => b"ReturnOutsideFunction",
+        _ => b"",
     }
 }
 
-fn error_row(out: &mut [u8], at: usize, place: usize, kind: u32, start: u32, end: u32) -> usize
-    ensures { Wrote (error_row place kind start end) out.old at out.new result }
+fn error_row(w: &mut Writer, place: usize, kind: u32, start: u32, end: u32)
+    ensures { w.new ≡ after (error_row place kind start end) w.old }
 {
-    let a = text(out, at, b"- error ");
-    let b = number(out, a, place as u64);
-    let c = put(out, b, b' ');
-    let d = error_name(out, c, kind);
-    let e = put(out, d, b' ');
-    let f = number(out, e, start as u64);
-    let g = put(out, f, b' ');
-    let h = number(out, g, end as u64);
-    put(out, h, b'\n')
+    w.text(b"- error ");
+    w.number(place as u64);
+    w.put(b' ');
+    w.text(error_name(kind));
+    w.put(b' ');
+    w.number(start as u64);
+    w.put(b' ');
+    w.number(end as u64);
+    w.put(b'\n');
 }
 
-fn error_rows(out: &mut [u8], at: usize, errors: &[u32], count: usize) -> usize
+#[tactic(auto, using(crate::proofs::WriterLaws::after_rows, crate::proofs::WriterLaws::after_no_rows))]
+fn error_rows(w: &mut Writer, errors: &[u32], count: usize)
     requires { count * 3 ≤ length errors.now }
-    ensures { Wrote (error_rows errors.now count) out.old at out.new result }
+    ensures { w.new ≡ after (error_rows errors.now count) w.old }
 {
-    let mut to = at;
-    let mut i: usize = 0;
-    while i < count {
+    for i in 0..count {
         let j = i * 3;
-        let kind = entry(errors, j);
-        let start = entry(errors, j + 1);
-        let end = entry(errors, j + 2);
-        to = error_row(out, to, i, kind, start, end);
-        i += 1;
+        error_row(
+            w,
+            i,
+            entry(errors, j),
+            entry(errors, j + 1),
+            entry(errors, j + 2),
+        );
     }
-    to
 }
 
 // How many whole entries there are in so many words, at most `most`: counted off, since nothing that prints divides.
@@ -501,56 +469,42 @@ fn entries(words: usize, width: usize, most: usize) -> usize
     ensures { result ≡ min most (words / width) }
 {
     let mut left = words;
-    let mut count: usize = 0;
-    while count < most {
+    for count in 0..most {
         if left < width {
             return count;
         }
         left -= width;
-        count += 1;
     }
-    count
+    most
 }
 
 // The listing of an accepted answer that told so many lines and errors: no more of them than there are words.
-pub fn listing(
-    out: &mut [u8],
-    symbols: &[u32],
-    recs: &[u32],
-    markers: &[u32],
-    constants: &[u32],
-    names: &[u32],
-    errors: &[u32],
-    lines: &[u32],
-    met: usize,
-    told: usize,
-) -> usize
-    ensures { Wrote (listing_text symbols.now recs.now markers.now constants.now names.now
-        errors.now lines.now met told) out.old 0 out.new result }
+pub fn listing(w: &mut Writer, s: &Source, met: usize, told: usize)
+    ensures { w.new ≡ after (listing_text s.now.symbols.now s.now.records.now s.now.markers.now
+        s.now.constants.now s.now.names.now s.now.errors.now s.now.lines.now met told) w.old }
 {
-    let a = text(out, 0, b"function section place word value more\n");
-    let f = entries(lines.len(), 7, met);
-    let b = functions_rows(out, a, symbols, recs, lines, markers, constants, names, f);
-    let e = entries(errors.len(), 3, told);
-    error_rows(out, b, errors, e)
+    w.text(b"function section place word value more\n");
+    functions_rows(w, s, entries(s.lines.len(), 7, met));
+    error_rows(w, s.errors, entries(s.errors.len(), 3, told));
 }
 
 // "A refusal prints the line `refusal place`, then one with the two values."
-pub fn refusal(out: &mut [u8], which: u32, place: usize) -> usize
-    ensures { Wrote (refusal_text which place) out.old 0 out.new result }
+pub fn refusal(w: &mut Writer, which: u32, place: usize)
+    ensures { w.new ≡ after (refusal_text which place) w.old }
 {
-    let a = text(out, 0, b"refusal place\n");
-    let b = number(out, a, which as u64);
-    let c = put(out, b, b' ');
-    let d = number(out, c, place as u64);
-    put(out, d, b'\n')
+    w.text(b"refusal place\n");
+    w.number(which as u64);
+    w.put(b' ');
+    w.number(place as u64);
+    w.put(b'\n');
 }
 
 // "gives `input` and the line number"
-pub fn input(out: &mut [u8], line: usize) -> usize
-    ensures { Wrote (input_text line) out.old 0 out.new result }
+#[tactic(auto, using(crate::proofs::WriterLaws::after_append, crate::proofs::WriterLaws::after_cons), unfolding(crate::specs::Print::input_text))]
+pub fn input(w: &mut Writer, line: usize)
+    ensures { w.new ≡ after (input_text line) w.old }
 {
-    let a = text(out, 0, b"input ");
-    let b = number(out, a, line as u64);
-    put(out, b, b'\n')
+    w.text(b"input ");
+    w.number(line as u64);
+    w.put(b'\n');
 }

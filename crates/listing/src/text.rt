@@ -1,48 +1,9 @@
-// Bytes, words and numbers into a lent buffer from a place on. Where the buffer is full nothing is written and the place stays.
+// Bytes, words and numbers into a lent buffer. Where the buffer is full nothing is written and the place stays.
 ghost use Rattle.std.specs.Prelude.{[], ◌∷◌, ◌≡◌, ◌*◌, ◌<◌};
 ghost use Rattle.opcode.specs.Names.{name as name_text};
-ghost use Rattle.listing.specs.Print.{Wrote, decimal, Powers, Wide, Leads, hex_digit, hex_digits, joined as joined_of, float, int};
+ghost use Rattle.listing.specs.Print.{after, decimal, Powers, Wide, Leads, hex_digit, hex_digits, joined as joined_of, float, int};
 
-use opcode::tables::{NameLen, name_byte, name_len};
-
-pub fn put(out: &mut [u8], at: usize, b: u8) -> usize
-    ensures { Wrote (b ∷ []) out.old at out.new result }
-{
-    if at < out.len() {
-        out[at] = b;
-        at + 1
-    } else {
-        at
-    }
-}
-
-pub fn text(out: &mut [u8], at: usize, bytes: &[u8]) -> usize
-    ensures { Wrote bytes.now out.old at out.new result }
-{
-    let mut to = at;
-    let mut i: usize = 0;
-    while i < bytes.len() {
-        to = put(out, to, bytes[i]);
-        i += 1;
-    }
-    to
-}
-
-// The name of a code; nothing past the last one.
-pub fn name(out: &mut [u8], at: usize, code: u32) -> usize
-    ensures { Wrote (name_text code) out.old at out.new result }
-{
-    let NameLen::Found(n) = name_len(code) else {
-        return at;
-    };
-    let mut to = at;
-    let mut i: usize = 0;
-    while i < n {
-        to = put(out, to, name_byte(code, i));
-        i += 1;
-    }
-    to
-}
+use opcode::tables;
 
 // "powers of ten from a fixed list of twenty" (document 02, job 7)
 const POWERS: [u64; 20] = [
@@ -80,14 +41,12 @@ fn width(n: u64, powers: &[u64; 20]) -> usize
     requires { Powers powers.now }
     ensures { Wide n result }
 {
-    let mut w: usize = 1;
-    while w < 20 {
+    for w in 1..powers.len() {
         if n < powers[w] {
             return w;
         }
-        w += 1;
     }
-    w
+    powers.len()
 }
 
 // A number's first digit, and what is left of it.
@@ -111,52 +70,11 @@ fn leading(n: u64, power: u64) -> Lead
     Lead { digit, rest }
 }
 
-// Any number, from its first digit on.
-fn long(out: &mut [u8], at: usize, n: u64) -> usize
-    ensures { Wrote (decimal n) out.old at out.new result }
-{
-    let list = powers();
-    let mut to = at;
-    let mut rest = n;
-    let mut i = width(n, &list);
-    while 0 < i {
-        i -= 1;
-        let l = leading(rest, list[i]);
-        to = put(out, to, 48 + l.digit);
-        rest = l.rest;
-    }
-    to
-}
-
-// Numbers below it have one digit.
-const TEN: u64 = 10;
-
-// Most numbers of a listing have one digit, and need no list.
-pub fn number(out: &mut [u8], at: usize, n: u64) -> usize
-    ensures { Wrote (decimal n) out.old at out.new result }
-{
-    if n < TEN {
-        return put(out, at, 48 + n as u8);
-    }
-    long(out, at, n)
-}
-
 fn hex_digit(n: u64) -> u8
     ensures { result ≡ hex_digit n }
 {
     let d = (n & 15) as u8;
     if d < 10 { 48 + d } else { 87 + d }
-}
-
-// The last `count` hexadecimal digits.
-fn hex(out: &mut [u8], at: usize, n: u64, count: u32) -> usize
-    ensures { Wrote (hex_digits count n) out.old at out.new result }
-{
-    if count == 0 {
-        return at;
-    }
-    let to = hex(out, at, n >> 4, count - 1);
-    put(out, to, hex_digit(n))
 }
 
 fn joined(high: u32, low: u32) -> u64
@@ -165,21 +83,102 @@ fn joined(high: u32, low: u32) -> u64
     high as u64 * 4294967296 + low as u64
 }
 
-// "Float 16 small hexadecimal digits"
-pub fn hex16(out: &mut [u8], at: usize, high: u32, low: u32) -> usize
-    ensures { Wrote (float high low) out.old at out.new result }
-{
-    hex(out, at, joined(high, low), 16)
+// Numbers below it have one digit.
+const TEN: u64 = 10;
+
+// A buffer, and the place where the next byte goes.
+#[derive(Drop)]
+pub struct Writer<'a> {
+    pub out: &'a mut [u8],
+    pub at: usize,
 }
 
-// "Int signed"
-pub fn signed(out: &mut [u8], at: usize, high: u32, low: u32) -> usize
-    ensures { Wrote (int high low) out.old at out.new result }
-{
-    let n = joined(high, low);
-    if high < 2147483648 {
-        return number(out, at, n);
+impl Writer<'_> {
+    pub fn put(&mut self, b: u8)
+        ensures { self.new ≡ after (b ∷ []) self.old }
+    {
+        let at = self.at;
+        if at < self.out.len() {
+            self.out[at] = b;
+            self.at = at + 1;
+        }
     }
-    let to = put(out, at, b'-');
-    number(out, to, 18446744073709551615 - n + 1)
+
+    #[tactic(auto, using(crate::proofs::WriterLaws::after_take, crate::proofs::WriterLaws::after_nil))]
+    pub fn text(&mut self, bytes: &[u8])
+        ensures { self.new ≡ after bytes.now self.old }
+    {
+        // A writer of its own, so that the place is not read again for each byte.
+        let mut w = Writer {
+            out: &mut *self.out,
+            at: self.at,
+        };
+        for b in bytes {
+            w.put(*b);
+        }
+        self.at = w.at;
+    }
+
+    // The name of a code; nothing past the last one.
+    pub fn name(&mut self, code: u32)
+        ensures { self.new ≡ after (name_text code) self.old }
+    {
+        let name = tables::name(code).unwrap_or("");
+        self.text(name.as_bytes())
+    }
+
+    // Any number, from its first digit on.
+    fn long(&mut self, n: u64)
+        ensures { self.new ≡ after (decimal n) self.old }
+    {
+        let list = powers();
+        let mut rest = n;
+        for i in (0..width(n, &list)).rev() {
+            let l = leading(rest, list[i]);
+            self.put(b'0' + l.digit);
+            rest = l.rest;
+        }
+    }
+
+    // Most numbers of a listing have one digit, and need no list.
+    pub fn number(&mut self, n: u64)
+        ensures { self.new ≡ after (decimal n) self.old }
+    {
+        if n < TEN {
+            self.put(b'0' + n as u8);
+        } else {
+            self.long(n);
+        }
+    }
+
+    // The last `count` hexadecimal digits.
+    fn hex(&mut self, n: u64, count: u32)
+        ensures { self.new ≡ after (hex_digits count n) self.old }
+    {
+        if count == 0 {
+            return;
+        }
+        self.hex(n >> 4, count - 1);
+        self.put(hex_digit(n));
+    }
+
+    // "Float 16 small hexadecimal digits"
+    pub fn hex16(&mut self, high: u32, low: u32)
+        ensures { self.new ≡ after (float high low) self.old }
+    {
+        self.hex(joined(high, low), 16);
+    }
+
+    // "Int signed"
+    pub fn signed(&mut self, high: u32, low: u32)
+        ensures { self.new ≡ after (int high low) self.old }
+    {
+        let n = joined(high, low);
+        if high < 2147483648 {
+            self.number(n);
+        } else {
+            self.put(b'-');
+            self.number(18446744073709551615 - n + 1);
+        }
+    }
 }

@@ -1,13 +1,9 @@
 -- The kind of each code's operand, and which operands are targets. Document 01, "Leaves": "A label, a constant, a local, a global, an upvalue
 -- and a function each have their own numbering". Assumes nothing: definitions.
-use Rattle.std.specs.Prelude.{List, [], ◌∷◌, ◌++◌, map, Bool, true, false, ℕ, ltb, get_or}
+use Rattle.std.specs.Prelude.{Option, List, [], ◌∷◌, ◌++◌, map, Bool, true, false, ℕ, get_or, slice_get}
 use Rattle.opcode.specs.Order.{in_order}
 use Rattle.opcode.specs.declared.opcode.OperandKind.{OperandKind}
 use Rattle.opcode.specs.declared.opcode.OperandKind.TheVariants as kind
-use Rattle.opcode.specs.declared.tables.KindLookup.{KindLookup}
-use Rattle.opcode.specs.declared.tables.KindLookup.TheVariants as kinds
-use Rattle.opcode.specs.declared.tables.TargetLookup.{TargetLookup}
-use Rattle.opcode.specs.declared.tables.TargetLookup.TheVariants as targeted
 use Rattle.opcode.specs.declared.opcode.OpCode.{OpCode}
 use Rattle.opcode.specs.declared.opcode.OpCode.TheVariants as op
 
@@ -70,12 +66,8 @@ operand_kind_of (op.MarkAddStackSize x) = kind.Count
 abbrev pub operand_kinds : List OperandKind
 operand_kinds = map operand_kind_of (in_order 0) ++ (kind.Label ∷ [])
 
-abbrev pub found_kind : Bool → OperandKind → KindLookup
-found_kind true k = kinds.Found k
-found_kind false k = kinds.Absent
-
-unfoldable pub operand_kind : ℕ → KindLookup
-operand_kind code = found_kind (ltb code 53) (get_or operand_kinds code kind.None)
+unfoldable pub operand_kind : ℕ → Option OperandKind
+operand_kind code = slice_get operand_kinds code
 
 abbrev pub is_label : OperandKind → Bool
 is_label kind.None = false
@@ -94,9 +86,5 @@ targets = map is_label (map operand_kind_of (in_order 0)) ++ (false ∷ [])
 unfoldable pub is_target : ℕ → Bool
 is_target code = get_or targets code false
 
-abbrev pub found_target : Bool → Bool → TargetLookup
-found_target true t = targeted.Found t
-found_target false t = targeted.Absent
-
-unfoldable pub target : ℕ → TargetLookup
-target code = found_target (ltb code 53) (is_target code)
+unfoldable pub target : ℕ → Option Bool
+target code = slice_get targets code

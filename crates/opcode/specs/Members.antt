@@ -1,7 +1,6 @@
 -- The members by number and their opcodes. Document 01, "Records": "members 0 to 5 follow .. `MemberKind`".
 -- Assumes nothing: definitions.
-use Rattle.std.specs.Prelude.{List, [], ◌∷◌, Bool, true, false, ℕ, ltb, get_or}
-use Rattle.std.proofs.Math.Option.{Option, none, some}
+use Rattle.std.specs.Prelude.{Option, List, [], ◌∷◌, ℕ, slice_get, option_map}
 use Rattle.opcode.specs.Words.{op_words}
 use Rattle.opcode.specs.declared.opcode.OpCode.{OpCode}
 use Rattle.opcode.specs.declared.opcode.OpCode.TheVariants.{GetAttr, GetItem, GetMeta, SetAttr, SetItem, SetMeta}
@@ -14,8 +13,6 @@ use Rattle.opcode.specs.declared.member.MemberKind.TheVariants.{
   DotMeta,
   DoubleColonMeta,
 }
-use Rattle.opcode.specs.declared.member.MemberLookup.{MemberLookup}
-use Rattle.opcode.specs.declared.member.MemberLookup.TheVariants.{Found, Absent}
 
 abbrev pub member_kinds : List MemberKind
 member_kinds = Bracket ∷ Dot ∷ DoubleColon ∷ BracketMeta ∷ DotMeta ∷ DoubleColonMeta ∷ []
@@ -29,12 +26,8 @@ member_number BracketMeta = 3
 member_number DotMeta = 4
 member_number DoubleColonMeta = 5
 
-abbrev pub found_member : Bool → MemberKind → MemberLookup
-found_member true k = Found k
-found_member false k = Absent
-
-unfoldable pub member_kind : ℕ → MemberLookup
-member_kind n = found_member (ltb n 6) (get_or member_kinds n Bracket)
+unfoldable pub member_kind : ℕ → Option MemberKind
+member_kind n = slice_get member_kinds n
 
 abbrev pub get_of : MemberKind → OpCode
 get_of Bracket = GetItem
@@ -52,13 +45,9 @@ set_of BracketMeta = SetMeta
 set_of DotMeta = SetMeta
 set_of DoubleColonMeta = SetMeta
 
-abbrev pub code_by : (MemberKind → OpCode) → MemberLookup → Option ℕ
-code_by f (Found k) = some (op_words (f k)).code
-code_by f Absent = none
-
 -- from the member's number to the opcode's
 unfoldable pub get_opcode : ℕ → Option ℕ
-get_opcode n = code_by get_of (member_kind n)
+get_opcode n = option_map (λ k. (op_words (get_of k)).code) (member_kind n)
 
 unfoldable pub set_opcode : ℕ → Option ℕ
-set_opcode n = code_by set_of (member_kind n)
+set_opcode n = option_map (λ k. (op_words (set_of k)).code) (member_kind n)

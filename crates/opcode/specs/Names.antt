@@ -1,12 +1,10 @@
 -- The name of each code. Document 01, "Leaves": "numbered 0 to 51 in the order of `OpCode`, with a name each; 52 is Label".
 -- Assumes nothing: definitions.
-use Rattle.std.specs.Prelude.{List, [], ◌∷◌, ◌++◌, map, Bool, true, false, ℕ, ltb, get_or, length}
+use Rattle.std.specs.Prelude.{List, [], ◌∷◌, ◌++◌, map, ℕ, get_or}
 use Prim.Native.Char.{code}
 use Prim.Native.String.{String}
 use Prim.Native.String as text
 use Rattle.opcode.specs.Order.{in_order}
-use Rattle.opcode.specs.declared.tables.NameLen.{NameLen}
-use Rattle.opcode.specs.declared.tables.NameLen.TheVariants.{Found, Absent}
 use Rattle.opcode.specs.declared.opcode.OpCode.{OpCode}
 use Rattle.opcode.specs.declared.opcode.OpCode.TheVariants as op
 
@@ -76,10 +74,3 @@ names = map bytes (map name_of (in_order 0)) ++ (bytes "Label" ∷ [])
 -- no bytes past the last code
 unfoldable pub name : ℕ → List ℕ
 name k = get_or names k []
-
-abbrev pub found_len : Bool → ℕ → NameLen
-found_len true n = Found n
-found_len false n = Absent
-
-unfoldable pub name_len : ℕ → NameLen
-name_len k = found_len (ltb k 53) (length (name k))

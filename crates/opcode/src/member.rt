@@ -1,11 +1,12 @@
 // The kinds of member expression by number, and the opcodes that get and set one.
-ghost use Rattle.std.specs.Prelude.{◌≡◌};
+ghost use Rattle.std.specs.Prelude.{◌≡◌, ok_or};
 ghost use Rattle.opcode.specs.Members.{member_kind, get_of, set_of};
 
+use crate::index::UnknownNumber;
 use crate::opcode::OpCode;
 
 // The expression or name that the first three hold is a child of the record.
-#[derive(Clone, Copy)]
+#[derive(Clone, Copy, Debug, PartialEq, Eq)]
 pub enum MemberKind {
     Bracket,
     Dot,
@@ -13,12 +14,6 @@ pub enum MemberKind {
     BracketMeta,
     DotMeta,
     DoubleColonMeta,
-}
-
-#[derive(Clone, Copy)]
-pub enum MemberLookup {
-    Found(MemberKind),
-    Absent,
 }
 
 const MEMBER_KINDS: [MemberKind; 6] = [
@@ -30,14 +25,17 @@ const MEMBER_KINDS: [MemberKind; 6] = [
     MemberKind::DoubleColonMeta,
 ];
 
-pub fn member_kind(n: u32) -> MemberLookup
-    ensures { result ≡ member_kind n }
-{
-    if n < 6 {
-        let k = MEMBER_KINDS[n as usize];
-        MemberLookup::Found(k)
-    } else {
-        MemberLookup::Absent
+impl TryFrom<u32> for MemberKind {
+    type Error = UnknownNumber;
+
+    ghost try_from_gives = { λ n r. r ≡ ok_or (member_kind n) (record { 0 = n }) };
+
+    #[tactic(auto, unfolding(crate::specs::Members::member_kind))]
+    fn try_from(n: u32) -> Result<Self, UnknownNumber> {
+        MEMBER_KINDS
+            .get(n as usize)
+            .copied()
+            .ok_or(UnknownNumber(n))
     }
 }
 

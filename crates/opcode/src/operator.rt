@@ -1,16 +1,17 @@
 // The operators by number, and the opcode that each becomes.
-ghost use Rattle.std.specs.Prelude.{◌≡◌};
+ghost use Rattle.std.specs.Prelude.{◌≡◌, ok_or};
 ghost use Rattle.opcode.specs.Operators.{bin_op, un_op, from_bin_op, from_un_op};
 
+use crate::index::UnknownNumber;
 use crate::opcode::OpCode;
 
-#[derive(Clone, Copy)]
+#[derive(Clone, Copy, Debug, PartialEq, Eq)]
 pub enum UnOp {
     Not,
     Neg,
 }
 
-#[derive(Clone, Copy)]
+#[derive(Clone, Copy, Debug, PartialEq, Eq)]
 pub enum BinOp {
     Add,
     Sub,
@@ -28,23 +29,9 @@ pub enum BinOp {
     Is,
 }
 
-#[derive(Clone, Copy)]
-pub enum UnOpLookup {
-    Found(UnOp),
-    Absent,
-}
-
-#[derive(Clone, Copy)]
-pub enum BinOpLookup {
-    Found(BinOp),
-    Absent,
-}
-
-#[derive(Clone, Copy)]
-pub enum OpCodeLookup {
-    Found(OpCode),
-    Absent,
-}
+// An operator that has no opcode of its own: And, Or or Is.
+#[derive(Clone, Copy, Debug, PartialEq, Eq)]
+pub struct NoOpCode(pub BinOp);
 
 const UN_OPS: [UnOp; 2] = [UnOp::Not, UnOp::Neg];
 
@@ -65,56 +52,58 @@ const BIN_OPS: [BinOp; 14] = [
     BinOp::Is,
 ];
 
-pub fn un_op(n: u32) -> UnOpLookup
-    ensures { result ≡ un_op n }
-{
-    if n < 2 {
-        let op = UN_OPS[n as usize];
-        UnOpLookup::Found(op)
-    } else {
-        UnOpLookup::Absent
+impl TryFrom<u32> for UnOp {
+    type Error = UnknownNumber;
+
+    ghost try_from_gives = { λ n r. r ≡ ok_or (un_op n) (record { 0 = n }) };
+
+    #[tactic(auto, unfolding(crate::specs::Operators::un_op))]
+    fn try_from(n: u32) -> Result<Self, UnknownNumber> {
+        UN_OPS.get(n as usize).copied().ok_or(UnknownNumber(n))
     }
 }
 
-pub fn bin_op(n: u32) -> BinOpLookup
-    ensures { result ≡ bin_op n }
-{
-    if n < 14 {
-        let op = BIN_OPS[n as usize];
-        BinOpLookup::Found(op)
-    } else {
-        BinOpLookup::Absent
+impl TryFrom<u32> for BinOp {
+    type Error = UnknownNumber;
+
+    ghost try_from_gives = { λ n r. r ≡ ok_or (bin_op n) (record { 0 = n }) };
+
+    #[tactic(auto, unfolding(crate::specs::Operators::bin_op))]
+    fn try_from(n: u32) -> Result<Self, UnknownNumber> {
+        BIN_OPS.get(n as usize).copied().ok_or(UnknownNumber(n))
     }
 }
 
-pub fn from_un_op(value: UnOp) -> OpCode
-    ensures { result ≡ from_un_op value }
-{
-    match value {
-        UnOp::Not => OpCode::Not,
-        UnOp::Neg => OpCode::Neg,
+impl From<UnOp> for OpCode {
+    ghost from_gives = { λ op r. r ≡ from_un_op op };
+
+    fn from(value: UnOp) -> Self {
+        match value {
+            UnOp::Not => OpCode::Not,
+            UnOp::Neg => OpCode::Neg,
+        }
     }
 }
 
-// And, Or and Is have no opcode of their own.
-pub fn from_bin_op(value: BinOp) -> OpCodeLookup
-    ensures { result ≡ from_bin_op value }
-{
-    let op = match value {
-        BinOp::Add => OpCode::Add,
-        BinOp::Sub => OpCode::Sub,
-        BinOp::Mul => OpCode::Mul,
-        BinOp::Div => OpCode::Div,
-        BinOp::Rem => OpCode::Rem,
-        BinOp::Eq => OpCode::Eq,
-        BinOp::Ne => OpCode::Ne,
-        BinOp::Lt => OpCode::Lt,
-        BinOp::Le => OpCode::Le,
-        BinOp::Gt => OpCode::Gt,
-        BinOp::Ge => OpCode::Ge,
-        BinOp::And => return OpCodeLookup::Absent,
-        BinOp::Or => return OpCodeLookup::Absent,
-        BinOp::Is => return OpCodeLookup::Absent,
-    };
-    OpCodeLookup::Found(op)
+impl TryFrom<BinOp> for OpCode {
+    type Error = NoOpCode;
+
+    ghost try_from_gives = { λ op r. r ≡ ok_or (from_bin_op op) (record { 0 = op }) };
+
+    fn try_from(value: BinOp) -> Result<Self, NoOpCode> {
+        match value {
+            BinOp::Add => Ok(OpCode::Add),
+            BinOp::Sub => Ok(OpCode::Sub),
+            BinOp::Mul => Ok(OpCode::Mul),
+            BinOp::Div => Ok(OpCode::Div),
+            BinOp::Rem => Ok(OpCode::Rem),
+            BinOp::Eq => Ok(OpCode::Eq),
+            BinOp::Ne => Ok(OpCode::Ne),
+            BinOp::Lt => Ok(OpCode::Lt),
+            BinOp::Le => Ok(OpCode::Le),
+            BinOp::Gt => Ok(OpCode::Gt),
+            BinOp::Ge => Ok(OpCode::Ge),
+            BinOp::And | BinOp::Or | BinOp::Is => Err(NoOpCode(value)),
+        }
+    }
 }

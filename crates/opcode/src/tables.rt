@@ -1,139 +1,64 @@
 // What is fixed for each of the 53 codes: its name, its operand's kind, and whether the operand is a target.
-ghost use Rattle.std.specs.Prelude.{◌≡◌, get_or};
+ghost use Rattle.std.specs.Prelude.{◌≡◌, slice_get, option_copied};
 ghost use Rattle.opcode.specs.Kinds.{operand_kind, target};
-ghost use Rattle.opcode.specs.Names.{name, name_len};
+ghost use Rattle.opcode.specs.Names.{names};
 
 use crate::opcode::OperandKind;
 
-#[derive(Clone, Copy)]
-pub enum NameLen {
-    Found(usize),
-    Absent,
-}
-
-#[derive(Clone, Copy)]
-pub enum KindLookup {
-    Found(OperandKind),
-    Absent,
-}
-
-#[derive(Clone, Copy)]
-pub enum TargetLookup {
-    Found(bool),
-    Absent,
-}
-
-// Each name is filled up with spaces to the longest one's length.
-const NAMES: [[u8; 16]; 53] = [
-    *b"Pop             ",
-    *b"Copy            ",
-    *b"Swap            ",
-    *b"LoadLocal       ",
-    *b"LoadGlobal      ",
-    *b"LoadUpvalue     ",
-    *b"LoadConst       ",
-    *b"StoreLocal      ",
-    *b"StoreGlobal     ",
-    *b"BuildTable      ",
-    *b"BuildList       ",
-    *b"GetAttr         ",
-    *b"GetItem         ",
-    *b"GetMeta         ",
-    *b"SetAttr         ",
-    *b"SetItem         ",
-    *b"SetMeta         ",
-    *b"Neg             ",
-    *b"Not             ",
-    *b"Add             ",
-    *b"Sub             ",
-    *b"Mul             ",
-    *b"Div             ",
-    *b"Rem             ",
-    *b"Eq              ",
-    *b"Ne              ",
-    *b"Gt              ",
-    *b"Ge              ",
-    *b"Lt              ",
-    *b"Le              ",
-    *b"TypeCheck       ",
-    *b"GetLen          ",
-    *b"Import          ",
-    *b"ImportFrom      ",
-    *b"ImportGlob      ",
-    *b"Iter            ",
-    *b"Call            ",
-    *b"Return          ",
-    *b"ReturnCall      ",
-    *b"LoadLocals      ",
-    *b"Jump            ",
-    *b"JumpBackEdge    ",
-    *b"Break           ",
-    *b"Continue        ",
-    *b"JumpPopIfNull   ",
-    *b"PopJumpIfTrue   ",
-    *b"PopJumpIfFalse  ",
-    *b"JumpIfTrueOrPop ",
-    *b"JumpIfFalseOrPop",
-    *b"RegisterHandler ",
-    *b"CheckEffect     ",
-    *b"MarkAddStackSize",
-    *b"Label           ",
-];
-
-const NAME_LENS: [usize; 53] = [
-    3, // Pop
-    4, // Copy
-    4, // Swap
-    9, // LoadLocal
-    10, // LoadGlobal
-    11, // LoadUpvalue
-    9, // LoadConst
-    10, // StoreLocal
-    11, // StoreGlobal
-    10, // BuildTable
-    9, // BuildList
-    7, // GetAttr
-    7, // GetItem
-    7, // GetMeta
-    7, // SetAttr
-    7, // SetItem
-    7, // SetMeta
-    3, // Neg
-    3, // Not
-    3, // Add
-    3, // Sub
-    3, // Mul
-    3, // Div
-    3, // Rem
-    2, // Eq
-    2, // Ne
-    2, // Gt
-    2, // Ge
-    2, // Lt
-    2, // Le
-    9, // TypeCheck
-    6, // GetLen
-    6, // Import
-    10, // ImportFrom
-    10, // ImportGlob
-    4, // Iter
-    4, // Call
-    6, // Return
-    10, // ReturnCall
-    10, // LoadLocals
-    4, // Jump
-    12, // JumpBackEdge
-    5, // Break
-    8, // Continue
-    13, // JumpPopIfNull
-    13, // PopJumpIfTrue
-    14, // PopJumpIfFalse
-    15, // JumpIfTrueOrPop
-    16, // JumpIfFalseOrPop
-    15, // RegisterHandler
-    11, // CheckEffect
-    16, // MarkAddStackSize
-    5, // Label
+const NAMES: [&str; 53] = [
+    "Pop",
+    "Copy",
+    "Swap",
+    "LoadLocal",
+    "LoadGlobal",
+    "LoadUpvalue",
+    "LoadConst",
+    "StoreLocal",
+    "StoreGlobal",
+    "BuildTable",
+    "BuildList",
+    "GetAttr",
+    "GetItem",
+    "GetMeta",
+    "SetAttr",
+    "SetItem",
+    "SetMeta",
+    "Neg",
+    "Not",
+    "Add",
+    "Sub",
+    "Mul",
+    "Div",
+    "Rem",
+    "Eq",
+    "Ne",
+    "Gt",
+    "Ge",
+    "Lt",
+    "Le",
+    "TypeCheck",
+    "GetLen",
+    "Import",
+    "ImportFrom",
+    "ImportGlob",
+    "Iter",
+    "Call",
+    "Return",
+    "ReturnCall",
+    "LoadLocals",
+    "Jump",
+    "JumpBackEdge",
+    "Break",
+    "Continue",
+    "JumpPopIfNull",
+    "PopJumpIfTrue",
+    "PopJumpIfFalse",
+    "JumpIfTrueOrPop",
+    "JumpIfFalseOrPop",
+    "RegisterHandler",
+    "CheckEffect",
+    "MarkAddStackSize",
+    "Label",
 ];
 
 const KINDS: [OperandKind; 53] = [
@@ -248,47 +173,23 @@ const TARGETS: [bool; 53] = [
     false, // Label
 ];
 
-pub fn name_len(code: u32) -> NameLen
-    ensures { result ≡ name_len code }
+// Past the last code there is nothing.
+pub fn name(code: u32) -> Option<&'static str>
+    ensures { option_copied result ≡ slice_get names code }
 {
-    if code < 53 {
-        let n = NAME_LENS[code as usize];
-        NameLen::Found(n)
-    } else {
-        NameLen::Absent
-    }
+    NAMES.get(code as usize).copied()
 }
 
-// A byte of a name, and 0 past its end and past the last code.
-pub fn name_byte(code: u32, i: usize) -> u8
-    ensures { result ≡ get_or (name code) i 0 }
-{
-    if code < 53 {
-        if i < NAME_LENS[code as usize] {
-            return NAMES[code as usize][i];
-        }
-    }
-    0
-}
-
-pub fn operand_kind(code: u32) -> KindLookup
+#[tactic(auto, using(crate::proofs::Table::got), unfolding(crate::specs::Kinds::operand_kind))]
+pub fn operand_kind(code: u32) -> Option<OperandKind>
     ensures { result ≡ operand_kind code }
 {
-    if code < 53 {
-        let k = KINDS[code as usize];
-        KindLookup::Found(k)
-    } else {
-        KindLookup::Absent
-    }
+    KINDS.get(code as usize).copied()
 }
 
-pub fn is_target(code: u32) -> TargetLookup
+#[tactic(auto, using(crate::proofs::Table::got), unfolding(crate::specs::Kinds::target))]
+pub fn is_target(code: u32) -> Option<bool>
     ensures { result ≡ target code }
 {
-    if code < 53 {
-        let t = TARGETS[code as usize];
-        TargetLookup::Found(t)
-    } else {
-        TargetLookup::Absent
-    }
+    TARGETS.get(code as usize).copied()
 }

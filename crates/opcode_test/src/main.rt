@@ -4,137 +4,74 @@
 
 mod sample;
 
-use opcode::member::{MemberKind, MemberLookup};
-use opcode::opcode::{OpCode, OperandKind};
-use opcode::operator::{BinOpLookup, OpCodeLookup, UnOpLookup};
-use opcode::tables::{KindLookup, NameLen, TargetLookup};
+use opcode::member::MemberKind;
+use opcode::opcode::{OpCode, Words};
+use opcode::operator::{BinOp, UnOp};
+use opcode::tables::{is_target, name, operand_kind};
+use std::fmt::Display;
+use std::io;
 
-fn main() {
-    io::write_all(
-        1,
-        b"number name kind target code operand binary unary get set\n",
-    );
+// An answer, or `-` where there is none.
+fn field<T: Display + Drop>(rt: &impl Print, answer: Option<T>) -> io::Result<()> {
+    match answer {
+        Some(x) => print!(rt; " {x}"),
+        None => print!(rt; " -"),
+    }
+}
+
+// The kind's own name in the enum.
+fn kind(rt: &impl Print, n: u32) -> io::Result<()> {
+    match operand_kind(n) {
+        Some(kind) => print!(rt; " {kind:?}"),
+        None => field::<u32>(rt, None),
+    }
+}
+
+fn yes_or_no(target: bool) -> &'static str {
+    if target { "yes" } else { "no" }
+}
+
+fn code(op: OpCode) -> u32 {
+    Words::from(op).code
+}
+
+fn words(rt: &impl Print, n: u32) -> io::Result<()> {
+    let words = sample::marker(n).map(Words::from);
+    field(rt, words.map(|w| w.code))?;
+    field(rt, words.map(|w| w.operand))
+}
+
+fn operators(rt: &impl Print, n: u32) -> io::Result<()> {
+    let binary = BinOp::try_from(n).ok();
+    let unary = UnOp::try_from(n).ok();
+    field(
+        rt,
+        binary.and_then(|op| OpCode::try_from(op).ok()).map(code),
+    )?;
+    field(rt, unary.map(|op| code(op.into())))
+}
+
+fn member(rt: &impl Print, n: u32) -> io::Result<()> {
+    let kind = MemberKind::try_from(n).ok();
+    field(rt, kind.map(|k| code(k.get_opcode())))?;
+    field(rt, kind.map(|k| code(k.set_opcode())))
+}
+
+fn row(rt: &impl Print, n: u32) -> io::Result<()> {
+    print!(rt; "{n}")?;
+    field(rt, name(n))?;
+    kind(rt, n)?;
+    field(rt, is_target(n).map(yes_or_no))?;
+    words(rt, n)?;
+    operators(rt, n)?;
+    member(rt, n)?;
+    println!(rt)
+}
+
+fn main(rt: HostRuntime) -> io::Result<()> {
+    println!(rt; "number name kind target code operand binary unary get set")?;
     for n in 0..54 {
-        row(n);
+        row(&rt, n)?;
     }
-}
-
-fn row(n: u32) {
-    io::print_decimal(1, n as u64);
-    name(n);
-    kind(n);
-    target(n);
-    words(n);
-    binary(n);
-    unary(n);
-    member(n);
-    io::write_all(1, b"\n");
-}
-
-fn absent() {
-    io::write_all(1, b" -");
-}
-
-fn field(n: u32) {
-    io::write_all(1, b" ");
-    io::print_decimal(1, n as u64);
-}
-
-fn code(op: OpCode) {
-    let w = opcode::words::op_words(op);
-    field(w.code);
-}
-
-fn name(n: u32) {
-    match opcode::tables::name_len(n) {
-        NameLen::Found(len) => bytes(n, len),
-        NameLen::Absent => absent(),
-    }
-}
-
-fn bytes(n: u32, len: usize) {
-    io::write_all(1, b" ");
-    let mut i: usize = 0;
-    while i < len {
-        let b = [opcode::tables::name_byte(n, i)];
-        io::write_all(1, &b);
-        i += 1;
-    }
-}
-
-fn kind(n: u32) {
-    match opcode::tables::operand_kind(n) {
-        KindLookup::Found(k) => kind_name(k),
-        KindLookup::Absent => absent(),
-    }
-}
-
-fn kind_name(k: OperandKind) {
-    match k {
-        OperandKind::None => io::write_all(1, b" None"),
-        OperandKind::Count => io::write_all(1, b" Count"),
-        OperandKind::Type => io::write_all(1, b" Type"),
-        OperandKind::Label => io::write_all(1, b" Label"),
-        OperandKind::Const => io::write_all(1, b" Const"),
-        OperandKind::Local => io::write_all(1, b" Local"),
-        OperandKind::Global => io::write_all(1, b" Global"),
-        OperandKind::Upvalue => io::write_all(1, b" Upvalue"),
-    };
-}
-
-fn target(n: u32) {
-    match opcode::tables::is_target(n) {
-        TargetLookup::Found(t) => {
-            if t {
-                io::write_all(1, b" yes");
-            } else {
-                io::write_all(1, b" no");
-            }
-        }
-        TargetLookup::Absent => absent(),
-    }
-}
-
-fn words(n: u32) {
-    if n < 53 {
-        let w = opcode::words::words(sample::marker(n));
-        field(w.code);
-        field(w.operand);
-    } else {
-        absent();
-        absent();
-    }
-}
-
-fn binary(n: u32) {
-    let BinOpLookup::Found(value) = opcode::operator::bin_op(n) else {
-        absent();
-        return;
-    };
-    match opcode::operator::from_bin_op(value) {
-        OpCodeLookup::Found(op) => code(op),
-        OpCodeLookup::Absent => absent(),
-    }
-}
-
-fn unary(n: u32) {
-    match opcode::operator::un_op(n) {
-        UnOpLookup::Found(value) => code(opcode::operator::from_un_op(value)),
-        UnOpLookup::Absent => absent(),
-    }
-}
-
-fn member(n: u32) {
-    match opcode::member::member_kind(n) {
-        MemberLookup::Found(k) => get_and_set(k),
-        MemberLookup::Absent => {
-            absent();
-            absent();
-        }
-    }
-}
-
-fn get_and_set(k: MemberKind) {
-    code(k.get_opcode());
-    code(k.set_opcode());
+    Ok(())
 }

@@ -2,11 +2,11 @@
 use opcode::index::{ConstId, GlobalNameId, LabelId, LocalNameId, UpvalueNameId};
 use opcode::opcode::{CodeMarker, OpCode};
 
-pub fn marker(code: u32) -> CodeMarker {
-    if code < 52 {
-        CodeMarker::OpCode(op(code))
-    } else {
-        CodeMarker::Label(LabelId(7))
+pub fn marker(code: u32) -> Option<CodeMarker> {
+    match code {
+        0..52 => Some(CodeMarker::OpCode(op(code))),
+        52 => Some(CodeMarker::Label(LabelId(7))),
+        _ => None,
     }
 }
 

@@ -13,9 +13,9 @@ use Rattle.rules.specs.Marker.{Jump, Copy, Pop, Label, To, Do, mark}
 use Rattle.rules.specs.Step.{ChildPath, Step, push_op, get_label, place, jump, width}
 use Rattle.rules.specs.Patterns.{parts, grown, pattern_labels, cleanup, pattern_steps, inside_steps, test_steps, case_tests, case_labels, cases_tests}
 use Rattle.rules.specs.Run.{State, flow, labels, emit, bump, exec}
-use Rattle.emit.specs.Rep.{Walk, Lent}
-use Rattle.emit.specs.Does.{nth, doing}
-use Rattle.emit.proofs.Basics.{no_bump}
+use Rattle.context.specs.Rep.{Walk, Lent}
+use Rattle.context.specs.Does.{nth, doing}
+use Rattle.context.proofs.Basics.{no_bump}
 use Rattle.plain.proofs.GoLaws.{env_kept}
 use Rattle.pattern.specs.Tests.{labels_visited, pattern_run, inside_run, cleanup_run, test_run, case_run, cases_run}
 use Rattle.pattern.proofs.HeldLaws.{

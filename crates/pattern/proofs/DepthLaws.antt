@@ -12,11 +12,11 @@ use Rattle.tables.specs.Forest.{Forest, first, forest, own_tree}
 use Rattle.tables.proofs.ForestLaws.{first_onward, forest_absent, forest_record}
 use Rattle.rules.specs.Step.{width}
 use Rattle.rules.specs.Patterns.{item, key, is_nested}
-use Rattle.emit.specs.Words.{cap, more}
-use Rattle.emit.specs.Sinks.{Pushes}
-use Rattle.emit.specs.Rep.{Outs, outs}
-use Rattle.emit.proofs.Basics.{on_true, on_false}
-use Rattle.emit.proofs.RepLaws.{resim, moves_sim, stay}
+use Rattle.context.specs.Words.{cap, more}
+use Rattle.context.specs.Sinks.{pushed}
+use Rattle.context.specs.declared.Context.{Context}
+use Rattle.context.proofs.Basics.{on_true, on_false}
+use Rattle.context.proofs.RepLaws.{resim, moves_sim, stay}
 use Rattle.plain.proofs.GoLaws.{cap_after}
 use Rattle.pattern.specs.declared.clean.CleanStack.{CleanStack}
 use Rattle.pattern.specs.Tests.{first_labels, lit_run, ident_run, table_run, pattern_run, first_run}
@@ -39,11 +39,11 @@ none_inside recs d h (suc q) ne z = sym (ap (first_labels d h) (forest_record re
 module _ (recs notes : List ℕ) {q d : ℕ} {s : CleanStack} where
   -- ---- a Table and a List
 
-  module _ {D m n l c₀ c i : ℕ} {s₁ s₂ : CleanStack} {code consts w w₁ : List ℕ} {o₂ : Outs} {w₂ code₃ consts₃ w₃ code₄ w₄ : List ℕ} (e₀ : c₀ ≡ first recs q)
+  module _ {D m n l c₀ c i : ℕ} {s₁ s₂ : CleanStack} {w w₁ w₂ w₃ w₄ : Context} (e₀ : c₀ ≡ first recs q)
       (em : m ≡ width (own_tree (forest recs c₀))) (eD : D ≡ more d) (deep : Deepens w w₁ s s₁ D) (el : l ≡ cap (s₁.first.0 + D))
-      (test : (p : ℕ) → WithLabel recs (outs code consts) w₁ o₂ w₂ l (λ r y. table_run r y p (words recs q) n)) where
-    pub table_visits : n ≡ cap (m / 2) → Turn recs notes key q D o₂ w₂ c₀ s₁ (outs code₃ consts₃) w₃ c i s₂ → c ≡ 0 → Pushes code₃ w₃ code₄ w₄ (pair_of 0 0)
-        → VisitsNested recs notes (outs code consts) w (outs code₄ consts₃) w₄ 37 q d s s₂
+      (test : (p : ℕ) → WithLabel recs w₁ w₂ l (λ r y. table_run r y p (words recs q) n)) where
+    pub table_visits : n ≡ cap (m / 2) → Turn recs notes key q D w₂ c₀ s₁ w₃ c i s₂ → c ≡ 0 → w₄ ≡ pushed (pair_of 0 0) w₃
+        → VisitsNested recs notes w w₄ 37 q d s s₂
     table_visits en t ec pop =
         record {
           visits = λ k nq.
@@ -52,8 +52,8 @@ module _ (recs notes : List ℕ) {q d : ℕ} {s : CleanStack} where
               eD deep el test t ec pop;
         }
 
-    pub list_visits : n ≡ cap m → Turn recs notes item q D o₂ w₂ c₀ s₁ (outs code₃ consts₃) w₃ c i s₂ → c ≡ 0 → Pushes code₃ w₃ code₄ w₄ (pair_of 0 0)
-        → VisitsNested recs notes (outs code consts) w (outs code₄ consts₃) w₄ 38 q d s s₂
+    pub list_visits : n ≡ cap m → Turn recs notes item q D w₂ c₀ s₁ w₃ c i s₂ → c ≡ 0 → w₄ ≡ pushed (pair_of 0 0) w₃
+        → VisitsNested recs notes w w₄ 38 q d s s₂
     list_visits en t ec pop =
         record {
           visits = λ k nq.
@@ -65,7 +65,7 @@ module _ (recs notes : List ℕ) {q d : ℕ} {s : CleanStack} where
 
   -- ---- no pattern
 
-  pub visit_none : {o : Outs} {w : List ℕ} → q ≡ 0 → VisitsPattern recs notes o w o w q d s s
+  pub visit_none : {w : Context} → q ≡ 0 → VisitsPattern recs notes w w q d s s
   visit_none e =
       record {
         first = refl;
@@ -77,11 +77,11 @@ module _ (recs notes : List ℕ) {q d : ℕ} {s : CleanStack} where
   -- ---- a pattern that has none inside
 
   module _ {l : ℕ} (nq : q ≡ 0 → ⊥) (el : l ≡ cap (s.first.0 + d)) where
-    pub visit_ident : {code w code' w' consts : List ℕ} → word recs q 0 ≡ 36
-        → ((recs consts : List ℕ) → WithLabel recs (outs code consts) w (outs code' consts) w' l (λ r y. ident_run notes r y q))
-        → VisitsPattern recs notes (outs code consts) w (outs code' consts) w' q d s s
+    pub visit_ident : {w w' : Context} → word recs q 0 ≡ 36
+        → ((recs : List ℕ) → WithLabel recs w w' l (λ r y. ident_run notes r y q))
+        → VisitsPattern recs notes w w' q d s s
     unfolding pattern_run
-    visit_ident {consts = consts} k test =
+    visit_ident k test =
         let no : is_nested (words recs q) ≡ false
         = nested_other (word recs q 0) (λ z. let y : ◌≡◌ {A = ℕ} 36 37 = sym k ∙ z in omega arith) (λ z. let y : ◌≡◌ {A = ℕ} 36 38 = sym k ∙ z in omega arith) in
         record {
@@ -89,11 +89,11 @@ module _ (recs notes : List ℕ) {q d : ℕ} {s : CleanStack} where
           taken = λ f. none_inside recs d s.taken q nq no;
           visits = λ f r x e. resim (λ v sc A.
               first_some recs notes r x d s.taken q A nq ∙ on_false (is_nested (words recs q)) _ _ no ∙ on_true (is_kind 36 (words recs q)) _ _ (eq-eqb _ 36 k))
-              (moves_sim ((test recs consts).moves r (x + d) (el ∙ cap_after s.first.0 d x e)));
+              (moves_sim ((test recs).moves r (x + d) (el ∙ cap_after s.first.0 d x e)));
         }
 
-    pub visit_lit : {o o' : Outs} {w w' : List ℕ} → (word recs q 0 ≡ 37 → ⊥) → (word recs q 0 ≡ 38 → ⊥) → (word recs q 0 ≡ 36 → ⊥)
-        → ((p : ℕ) → WithLabel recs o w o' w' l (λ r y. lit_run r y p (words recs q))) → VisitsPattern recs notes o w o' w' q d s s
+    pub visit_lit : {w w' : Context} → (word recs q 0 ≡ 37 → ⊥) → (word recs q 0 ≡ 38 → ⊥) → (word recs q 0 ≡ 36 → ⊥)
+        → ((p : ℕ) → WithLabel recs w w' l (λ r y. lit_run r y p (words recs q))) → VisitsPattern recs notes w w' q d s s
     unfolding pattern_run
     visit_lit n₁ n₂ n₃ test =
         let no : is_nested (words recs q) ≡ false = nested_other (word recs q 0) n₁ n₂ in

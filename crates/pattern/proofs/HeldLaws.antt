@@ -12,9 +12,10 @@ use Rattle.rules.specs.declared.Flow.TheVariants.{Go}
 use Rattle.rules.specs.Marker.{Mark}
 use Rattle.rules.specs.Step.{Set, Step}
 use Rattle.rules.specs.Run.{State, flow, labels, emit, bump, sought}
-use Rattle.emit.specs.Rep.{Walk, Lent}
-use Rattle.emit.specs.Does.{doing}
-use Rattle.emit.proofs.Basics.{is_go, bool_or, is_go_lem, Rests, no_emit, no_bump, no_halt}
+use Rattle.context.specs.Rep.{Walk, Lent}
+use Rattle.context.specs.Does.{doing}
+use Rattle.context.specs.Words.{is_go}
+use Rattle.context.proofs.Basics.{bool_or, is_go_lem, Rests, no_emit, no_bump, no_halt}
 use Rattle.plain.proofs.GoLaws.{emit_labels, sought_labels, bump_labels, env_kept, env_new}
 
 -- ---- lists that grow at their end

@@ -18,11 +18,12 @@ use Rattle.rules.specs.Arms.{bodies}
 use Rattle.rules.specs.Patterns.{cases_tests, match_cases, match_steps}
 use Rattle.rules.specs.Run.{State, flow, labels, emit, bump, exec}
 use Rattle.rules.proofs.Sticky.{Ended, Sticky, exec_sticky, visits_sticky}
-use Rattle.emit.specs.Rep.{Walk, mode, Lent}
-use Rattle.emit.specs.Does.{noted_look, own_stream, near, doing, does}
-use Rattle.emit.proofs.Basics.{is_go, clash, bool_or, is_go_lem, no_bump}
-use Rattle.emit.proofs.RepLaws.{bumps}
-use Rattle.emit.proofs.VisitLaws.{children_near}
+use Rattle.context.specs.Rep.{Walk, mode, Lent}
+use Rattle.context.specs.Does.{noted_look, own_stream, near, doing, does}
+use Rattle.context.specs.Words.{is_go}
+use Rattle.context.proofs.Basics.{clash, bool_or, is_go_lem, no_bump}
+use Rattle.context.proofs.RepLaws.{bumps}
+use Rattle.context.proofs.VisitLaws.{children_near}
 use Rattle.pattern.specs.Tests.{cases_run, in_row}
 use Rattle.pattern.proofs.HeldLaws.{quiet_none, still_going, Held, held_more, Goes, Holds, quiet_holds, then_goes, then_holds, to_holds}
 use Rattle.pattern.proofs.PatternLaws.{link_at}

@@ -34,11 +34,11 @@ use Rattle.rules.specs.Patterns.{
   inside_steps,
 }
 use Rattle.rules.specs.Run.{State, labels, emit, bump, exec, spot_at, number_of}
-use Rattle.emit.specs.Rep.{Walk, Lent}
-use Rattle.emit.specs.Does.{nth, child, reach, doing}
-use Rattle.emit.proofs.Basics.{on_false, no_bump}
-use Rattle.emit.proofs.VisitLaws.{number_spot, spot_child}
-use Rattle.emit.proofs.PartLaws.{nth_next}
+use Rattle.context.specs.Rep.{Walk, Lent}
+use Rattle.context.specs.Does.{nth, child, reach, doing}
+use Rattle.context.proofs.Basics.{on_false, no_bump}
+use Rattle.context.proofs.VisitLaws.{number_spot, spot_child}
+use Rattle.context.proofs.PartLaws.{nth_next}
 use Rattle.plain.specs.Runs.{item_run}
 use Rattle.pattern.specs.Tests.{
   lit_of,

@@ -5,7 +5,6 @@ use mathlib.Core.List.{List}
 use mathlib.Core.Logic.{inl, inr}
 use Prim.Native.Nat.{ℕ, zero, suc, ◌+◌, ◌-◌, ◌≤◌, ◌<◌}
 use native.Mathlib.Omega.{arith}
-use lib.ListN.{length}
 use Rattle.opcode.specs.declared.index.LabelId.{LabelId}
 use Rattle.opcode.specs.Words.{pair_of}
 use Rattle.tables.specs.Record.{word, words, size, is_function}
@@ -13,13 +12,14 @@ use Rattle.tables.specs.Forest.{Forest, none, tree, first, next, forest, childre
 use Rattle.tables.proofs.ForestLaws.{Onward, first_onward, forest_absent, forest_record}
 use Rattle.rules.specs.Marker.{Jump, Copy, Pop, To, Do, mark}
 use Rattle.rules.specs.Run.{State, labels, emit, bump}
-use Rattle.emit.specs.Words.{cap, more}
-use Rattle.emit.specs.Sinks.{Pushes}
-use Rattle.emit.specs.Rep.{lent, Outs, outs, Sim}
-use Rattle.emit.specs.Does.{child}
-use Rattle.emit.proofs.Basics.{more_cap}
-use Rattle.emit.proofs.RepLaws.{given, then, resim, stay, label, labelled}
-use Rattle.emit.proofs.MarkLaws.{jumped, said}
+use Rattle.context.specs.Words.{cap, more}
+use Rattle.context.specs.Sinks.{pushed}
+use Rattle.context.specs.Rep.{lent_words, Sim}
+use Rattle.context.specs.declared.Context.{Context}
+use Rattle.context.specs.Does.{child}
+use Rattle.context.proofs.Basics.{more_cap}
+use Rattle.context.proofs.RepLaws.{given, then, resim, stay, label, labelled}
+use Rattle.context.proofs.MarkLaws.{jumped, said}
 use Rattle.pattern.specs.declared.clean.CleanStack.{CleanStack}
 use Rattle.pattern.specs.Tests.{own, labels_visited, first_labels, first_run, cleanup_run, test_run, case_run, cases_run}
 use Rattle.pattern.specs.Promises.{Begins, Cleans, Deep, VisitsPattern, TestsPattern, TestsCase, Tests}
@@ -37,10 +37,10 @@ module _ (recs notes : List ℕ) where
   first_count d h zero ne = absurd (ne refl)
   first_count d h (suc q) ne = sym (ap (first_labels d h) (forest_record recs q))
 
-  module _ {q l : ℕ} {s s' : CleanStack} {code consts w w₁ code₂ w₂ code₃ consts₃ w₃ code₄ w₄ code₅ w₅ code₆ w₆ : List ℕ} where
-    pub pattern_tests : Begins w w₁ s → Pushes code w₁ code₂ w₂ (pair_of 1 1) → VisitsPattern recs notes (outs code₂ consts) w₂ (outs code₃ consts₃) w₃ q 0 s s'
-        → Pushes code₃ w₃ code₄ w₄ (pair_of 0 0) → Pushes code₄ w₄ code₅ w₅ (pair_of 40 l) → Cleans code₅ w₅ code₆ w₆ s'
-        → TestsPattern recs notes code consts w code₆ consts₃ w₆ q l
+  module _ {q l : ℕ} {s s' : CleanStack} {w w₁ w₂ w₃ w₄ w₅ w₆ : Context} where
+    pub pattern_tests : Begins w w₁ s → w₂ ≡ pushed (pair_of 1 1) w₁ → VisitsPattern recs notes w₂ w₃ q 0 s s'
+        → w₄ ≡ pushed (pair_of 0 0) w₃ → w₅ ≡ pushed (pair_of 40 l) w₄ → Cleans w₅ w₆ s'
+        → TestsPattern recs notes w w₆ q l
     unfolding test_run
     pattern_tests b copy k pop jump clean =
         record {
@@ -53,7 +53,7 @@ module _ (recs notes : List ℕ) where
                 let h₁ = said r Copy 1 refl refl copy (labelled b.label h) in
                 let h₂ = (k.visits deep r x at).sim z v o₀ _ h₁ in
                 let h₃ = jumped r Jump y refl e jump (said r Pop 0 refl refl pop h₂) in
-                let h₄ = ((clean.cleans recs consts₃).moves r x (ap (λ (i : LabelId). i.0) k.first ∙ at)).moves v o₀ _ h₃ in
+                let h₄ = ((clean.cleans recs).moves r x (ap (λ (i : LabelId). i.0) k.first ∙ at)).moves v o₀ _ h₃ in
                 let taken : labels_visited 0 1 (words recs q) (children recs q) ≡ s'.taken
                 = first_count 0 1 q ne ∙ ap (λ (n : ℕ). first_labels 0 n (forest recs q)) (sym b.taken) ∙ sym (k.taken deep) in
                 let B = emit (mark r (Do Copy 1)) (bump A) in
@@ -64,13 +64,11 @@ module _ (recs notes : List ℕ) where
 
   -- ---- the patterns of the Case q: those before the record p are tested, and what tests the others tests all
 
-  pub record CaseTurn (q l n : ℕ) (o₀ : Outs) (w₀ : List ℕ) (p₀ : ℕ) (o : Outs) (w : List ℕ) (p i : ℕ) : Type 0 where
+  pub record CaseTurn (q l n : ℕ) (w₀ : Context) (p₀ : ℕ) (w : Context) (p i : ℕ) : Type 0 where
     pub range : i ≤ n
     pub link : Onward recs q p
-    pub code : length o.code ≡ length o₀.code
-    pub consts : length o.consts ≡ length o₀.consts
-    pub work : (q ≡ 0 → ⊥) → (r y : ℕ) → l ≡ cap y → (o' : Outs) (w' : List ℕ) → Sim (lent recs notes) o w o' w' (λ v. case_run notes r y (n - i) (forest recs p))
-        → Sim (lent recs notes) o₀ w₀ o' w' (λ v. case_run notes r y n (forest recs p₀))
+    pub work : (q ≡ 0 → ⊥) → (r y : ℕ) → l ≡ cap y → (w' : Context) → Sim (lent_words recs notes) w w' (λ v. case_run notes r y (n - i) (forest recs p))
+        → Sim (lent_words recs notes) w₀ w' (λ v. case_run notes r y n (forest recs p₀))
 
   child_onward : (q p : ℕ) → p ≡ child recs q 0 → Onward recs q p
   child_onward zero p e = inl e
@@ -105,28 +103,24 @@ module _ (recs notes : List ℕ) where
   case_some r y n m (suc p) A ne e = ap₂ (λ (k : ℕ) (f : Forest). case_run notes r y k f A) e (forest_record recs p)
 
   module _ {q l n : ℕ} {p₀ : ℕ} where
-    pub case_holds : (o : Outs) (w : List ℕ) → p₀ ≡ child recs q 0 → CaseTurn q l n o w p₀ o w p₀ 0
-    case_holds o w e =
+    pub case_holds : (w : Context) → p₀ ≡ child recs q 0 → CaseTurn q l n w p₀ w p₀ 0
+    case_holds w e =
         record {
           range = omega arith;
           link = child_onward q p₀ e;
-          code = refl;
-          consts = refl;
-          work = λ ne r y z o' w' h. resim (λ v sc A. ap (λ (k : ℕ). case_run notes r y k (forest recs p₀) A) (let k : n ≡ n - 0 = omega arith in k)) h;
+          work = λ ne r y z w' h. resim (λ v sc A. ap (λ (k : ℕ). case_run notes r y k (forest recs p₀) A) (let k : n ≡ n - 0 = omega arith in k)) h;
         }
 
-    module _ {code₀ consts₀ w₀ code consts w : List ℕ} {p i : ℕ} (t : CaseTurn q l n (outs code₀ consts₀) w₀ p₀ (outs code consts) w p i) where
-      pub case_again : {code₁ consts₁ w₁ : List ℕ} {x j : ℕ} → i < n → (p ≡ 0 → ⊥) → TestsPattern recs notes code consts w code₁ consts₁ w₁ p l → x ≡ next recs p → j ≡ i + 1
-          → length code₁ ≡ length code → length consts₁ ≡ length consts → CaseTurn q l n (outs code₀ consts₀) w₀ p₀ (outs code₁ consts₁) w₁ x j
-      case_again {x = x} {j = j} lt np k ex ej lc ls =
+    module _ {w₀ w : Context} {p i : ℕ} (t : CaseTurn q l n w₀ p₀ w p i) where
+      pub case_again : {w₁ : Context} {x j : ℕ} → i < n → (p ≡ 0 → ⊥) → TestsPattern recs notes w w₁ p l → x ≡ next recs p → j ≡ i + 1
+          → CaseTurn q l n w₀ p₀ w₁ x j
+      case_again {x = x} {j = j} lt np k ex ej =
           record {
             range = omega arith;
             link = onward_next recs q p x t.link np ex;
-            code = lc ∙ t.code;
-            consts = ls ∙ t.consts;
-            work = λ ne r y e o' w' h.
+            work = λ ne r y e w' h.
                 let b = inside ne t.link in
-                t.work ne r y e o' w' (resim (λ v sc A.
+                t.work ne r y e w' (resim (λ v sc A.
                 case_some r y (n - i) (n - j) p A np (omega arith)
                 ∙ ap (λ (z : ℕ). case_run notes r y (n - j) (forest recs z) (test_run notes r y p (words recs p) (children recs p) A)) (sym ex))
                 (then (k.tests b.0 b.1 r y e) h));
@@ -138,29 +132,27 @@ module _ (recs notes : List ℕ) where
 
       -- nothing is left: there are fewer patterns than the Case says, or all are tested
       case_all : n ≡ word recs q 2 → p₀ ≡ child recs q 0 → ((r y : ℕ) (A : State) → case_run notes r y (n - i) (forest recs p) A ≡ A)
-          → TestsCase recs notes code₀ consts₀ w₀ code consts w q l
+          → TestsCase recs notes w₀ w q l
       case_all en ep z =
           record {
             tests = λ ne r y e.
                 resim (λ v sc A. ap₂ (λ (k : ℕ) (f : Forest). case_run notes r y k f A) (sym en) (own_child q p₀ ne ep))
-                (t.work ne r y e (outs code consts) w (resim (λ v sc A. z r y A) stay));
+                (t.work ne r y e w (resim (λ v sc A. z r y A) stay));
           }
 
-      pub case_short : n ≡ word recs q 2 → p₀ ≡ child recs q 0 → p ≡ 0 → TestsCase recs notes code₀ consts₀ w₀ code consts w q l
+      pub case_short : n ≡ word recs q 2 → p₀ ≡ child recs q 0 → p ≡ 0 → TestsCase recs notes w₀ w q l
       case_short en ep z = case_all en ep (λ r y A. case_none r y (n - i) p A z)
 
-      pub case_done : n ≡ word recs q 2 → p₀ ≡ child recs q 0 → n ≤ i → TestsCase recs notes code₀ consts₀ w₀ code consts w q l
+      pub case_done : n ≡ word recs q 2 → p₀ ≡ child recs q 0 → n ≤ i → TestsCase recs notes w₀ w q l
       case_done en ep z = case_all en ep (λ r y A. case_zero r y (n - i) (forest recs p) A (omega arith))
 
   -- ---- the Cases: those before the record c are tested, and what tests the others tests all
 
-  pub record CasesTurn (l₀ : ℕ) (o₀ : Outs) (w₀ : List ℕ) (c₀ : ℕ) (o : Outs) (w : List ℕ) (c l : ℕ) : Type 0 where
+  pub record CasesTurn (l₀ : ℕ) (w₀ : Context) (c₀ : ℕ) (w : Context) (c l : ℕ) : Type 0 where
     pub turn : ℕ
-    pub code : length o.code ≡ length o₀.code
-    pub consts : length o.consts ≡ length o₀.consts
     pub label : (base : ℕ) → l₀ ≡ cap base → l ≡ cap (base + turn)
-    pub work : (r base : ℕ) → l₀ ≡ cap base → (o' : Outs) (w' : List ℕ) → Sim (lent recs notes) o w o' w' (λ v. cases_run notes r (base + turn) (forest recs c))
-        → Sim (lent recs notes) o₀ w₀ o' w' (λ v. cases_run notes r base (forest recs c₀))
+    pub work : (r base : ℕ) → l₀ ≡ cap base → (w' : Context) → Sim (lent_words recs notes) w w' (λ v. cases_run notes r (base + turn) (forest recs c))
+        → Sim (lent_words recs notes) w₀ w' (λ v. cases_run notes r base (forest recs c₀))
 
   cases_none : (r y c : ℕ) (A : State) → c ≡ 0 → cases_run notes r y (forest recs c) A ≡ A
   unfolding cases_run
@@ -173,33 +165,29 @@ module _ (recs notes : List ℕ) where
   cases_some r y zero A ne = absurd (ne refl)
   cases_some r y (suc c) A ne = ap (λ (f : Forest). cases_run notes r y f A) (forest_record recs c)
 
-  pub cases_hold : (l : ℕ) (o : Outs) (w : List ℕ) (c : ℕ) → CasesTurn l o w c o w c l
-  cases_hold l o w c =
+  pub cases_hold : (l : ℕ) (w : Context) (c : ℕ) → CasesTurn l w c w c l
+  cases_hold l w c =
       record {
         turn = 0;
-        code = refl;
-        consts = refl;
         label = λ base e. e ∙ ap cap (let z : base ≡ base + 0 = omega arith in z);
-        work = λ r base e o' w' h. resim (λ v sc A. ap (λ (y : ℕ). cases_run notes r y (forest recs c) A) (let z : base ≡ base + 0 = omega arith in z)) h;
+        work = λ r base e w' h. resim (λ v sc A. ap (λ (y : ℕ). cases_run notes r y (forest recs c) A) (let z : base ≡ base + 0 = omega arith in z)) h;
       }
 
-  module _ {l₀ c₀ c l : ℕ} {code₀ consts₀ w₀ code consts w : List ℕ} (t : CasesTurn l₀ (outs code₀ consts₀) w₀ c₀ (outs code consts) w c l) where
-    pub cases_again : {code₁ consts₁ w₁ : List ℕ} {x m : ℕ} → (c ≡ 0 → ⊥) → TestsCase recs notes code consts w code₁ consts₁ w₁ c l → x ≡ next recs c → m ≡ more l
-        → length code₁ ≡ length code → length consts₁ ≡ length consts → CasesTurn l₀ (outs code₀ consts₀) w₀ c₀ (outs code₁ consts₁) w₁ x m
-    cases_again {x = x} ne k ex em lc ls =
+  module _ {l₀ c₀ c l : ℕ} {w₀ w : Context} (t : CasesTurn l₀ w₀ c₀ w c l) where
+    pub cases_again : {w₁ : Context} {x m : ℕ} → (c ≡ 0 → ⊥) → TestsCase recs notes w w₁ c l → x ≡ next recs c → m ≡ more l
+        → CasesTurn l₀ w₀ c₀ w₁ x m
+    cases_again {x = x} ne k ex em =
         record {
           turn = suc t.turn;
-          code = lc ∙ t.code;
-          consts = ls ∙ t.consts;
           label = λ base e. em ∙ ap more (t.label base e) ∙ more_cap (base + t.turn) ∙ ap cap (let z : suc (base + t.turn) ≡ base + suc t.turn = omega arith in z);
-          work = λ r base e o' w' h.
+          work = λ r base e w' h.
               let y = base + t.turn in
-              t.work r base e o' w' (resim (λ v sc A.
+              t.work r base e w' (resim (λ v sc A.
               cases_some r y c A ne
               ∙ ap₂ (λ (i z : ℕ). cases_run notes r i (forest recs z) (case_run notes r y (word recs c 2) (own (words recs c) (children recs c)) A))
               (let z : suc (base + t.turn) ≡ base + suc t.turn = omega arith in z) (sym ex))
               (then (k.tests ne r y (t.label base e)) h));
         }
 
-    pub cases_done : c ≡ 0 → Tests recs notes code₀ consts₀ w₀ code consts w c₀ l₀
-    cases_done z = record { tests = λ r base e. t.work r base e (outs code consts) w (resim (λ v sc A. cases_none r (base + t.turn) c A z) stay) }
+    pub cases_done : c ≡ 0 → Tests recs notes w₀ w c₀ l₀
+    cases_done z = record { tests = λ r base e. t.work r base e w (resim (λ v sc A. cases_none r (base + t.turn) c A z) stay) }

@@ -5,9 +5,8 @@ use mathlib.Core.List.{List}
 use mathlib.Core.Logic.{inl, inr}
 use Prim.Native.Nat.{ℕ, zero, suc, ◌+◌, ◌-◌, ◌/◌, ◌≤◌, ◌<◌}
 use native.Mathlib.Omega.{arith}
-use lib.ListN.{length}
 use lib.Dec.{ltb}
-use borrow.Author.Tests.{lt-ltb, ltb-false}
+use borrow.Author.Tests.{ltb-false}
 use Rattle.opcode.specs.declared.index.LabelId.{LabelId}
 use Rattle.opcode.specs.Words.{pair_of}
 use Rattle.tables.specs.Record.{Words, words, size, is_kind}
@@ -18,12 +17,13 @@ use Rattle.rules.specs.Marker.{Pop, Do, mark}
 use Rattle.rules.specs.Step.{width}
 use Rattle.rules.specs.Patterns.{Part, item, key, value, parts, is_nested, grown, labels_after, pattern_size}
 use Rattle.rules.specs.Run.{State, emit, bump}
-use Rattle.emit.specs.Words.{limit, cap, more}
-use Rattle.emit.specs.Sinks.{Pushes}
-use Rattle.emit.specs.Rep.{lent, Outs, outs, Sim}
-use Rattle.emit.proofs.Basics.{on_true}
-use Rattle.emit.proofs.RepLaws.{then, resim, moves_sim, stay, bumps, labelled}
-use Rattle.emit.proofs.MarkLaws.{said}
+use Rattle.context.specs.Words.{limit, cap, more}
+use Rattle.context.specs.Sinks.{pushed}
+use Rattle.context.specs.Rep.{lent_words, Sim}
+use Rattle.context.specs.declared.Context.{Context}
+use Rattle.context.proofs.Basics.{on_true}
+use Rattle.context.proofs.RepLaws.{then, resim, moves_sim, stay, bumps, labelled}
+use Rattle.context.proofs.MarkLaws.{said}
 use Rattle.plain.specs.Runs.{item_run}
 use Rattle.plain.specs.Leaves.{GetsItem}
 use Rattle.plain.proofs.GoLaws.{cap_after}
@@ -149,22 +149,20 @@ module _ (recs : List ℕ) where
 abbrev pub Fits : List ℕ → ℕ → ℕ → Type 0
 Fits recs d q = (size recs < limit) × (d < q)
 
-pub record Turn (recs notes : List ℕ) (a : Part) (q d : ℕ) (o₀ : Outs) (w₀ : List ℕ) (c₀ : ℕ) (s₀ : CleanStack) (o : Outs) (w : List ℕ) (c i : ℕ) (s : CleanStack) : Type 0 where
+pub record Turn (recs notes : List ℕ) (a : Part) (q d : ℕ) (w₀ : Context) (c₀ : ℕ) (s₀ : CleanStack) (w : Context) (c i : ℕ) (s : CleanStack) : Type 0 where
   pub first : s.first ≡ s₀.first
   pub link : Onward recs q c
   pub fall : rank recs c ≤ rank recs c₀
   pub few : (c ≡ 0 → ⊥) → i < c
-  pub code : length o.code ≡ length o₀.code
-  pub consts : length o.consts ≡ length o₀.consts
   pub taken : Fits recs d q → labels_after a d s₀.taken (own_tree (forest recs c₀)) ≡ labels_after a d s.taken (own_tree (forest recs c))
-  pub work : Fits recs d q → (r x : ℕ) → s₀.first.0 ≡ cap x → (o' : Outs) (w' : List ℕ)
-      → Sim (lent recs notes) o w o' w' (λ v. inside_run notes r a x d s.taken q i (forest recs c))
-      → Sim (lent recs notes) o₀ w₀ o' w' (λ v. inside_run notes r a x d s₀.taken q 0 (forest recs c₀))
+  pub work : Fits recs d q → (r x : ℕ) → s₀.first.0 ≡ cap x → (w' : Context)
+      → Sim (lent_words recs notes) w w' (λ v. inside_run notes r a x d s.taken q i (forest recs c))
+      → Sim (lent_words recs notes) w₀ w' (λ v. inside_run notes r a x d s₀.taken q 0 (forest recs c₀))
 
 -- of a Table, whose children are not counted
-pub record TableTurn (recs notes : List ℕ) (q d : ℕ) (o₀ : Outs) (w₀ : List ℕ) (c₀ : ℕ) (s₀ : CleanStack) (o : Outs) (w : List ℕ) (c : ℕ) (s : CleanStack) : Type 0 where
+pub record TableTurn (recs notes : List ℕ) (q d : ℕ) (w₀ : Context) (c₀ : ℕ) (s₀ : CleanStack) (w : Context) (c : ℕ) (s : CleanStack) : Type 0 where
   pub i : ℕ
-  pub turn : Turn recs notes key q d o₀ w₀ c₀ s₀ o w c i s
+  pub turn : Turn recs notes key q d w₀ c₀ s₀ w c i s
 
 -- a child is deep enough
 child_deep : (recs : List ℕ) (d q c : ℕ) → Onward recs q c → Fits recs d q → Deep recs d c
@@ -172,7 +170,7 @@ child_deep recs d q c (inl e) (m, lt) = (m, inl e)
 child_deep recs d q c (inr (a, b)) (m, lt) = (m, inr (omega arith, b))
 
 more_exact : (n : ℕ) → n < limit → more n ≡ suc n
-more_exact n lt = on_true (ltb n limit) (n + 1) n (lt-ltb n limit lt) ∙ omega arith
+more_exact n lt = omega arith
 
 one_more : (recs : List ℕ) (q c i n : ℕ) → Onward recs q c → (c ≡ 0 → ⊥) → size recs < limit → i < c → n ≡ more i → n ≡ suc i
 one_more recs q c i n (inl z) ne m lt e = absurd (ne z)
@@ -186,11 +184,7 @@ rises recs c x i n ne e lt le nx = go (next_onward recs c)
     go (inr (a, b)) = omega arith
 
 more_least : (i : ℕ) → more i ≤ suc i
-more_least i = go (ltb i limit)
-  where
-    go : (b : Bool) → cond b (i + 1) i ≤ suc i
-    go true = omega arith
-    go false = omega arith
+more_least i = omega arith
 
 twice : (recs : List ℕ) (c l x i : ℕ) → (c ≡ 0 → ⊥) → l ≡ next recs c → x ≡ next recs l → i < c → (x ≡ 0 → ⊥) → suc (suc i) < x
 twice recs c l x i ne el ex lt nx =
@@ -203,66 +197,60 @@ same_inside recs notes a r y d q {h} {h'} {i} {i'} {c} A eh ei ec =
     ap₂ (λ (k l : ℕ). inside_run notes r a y d k q l (forest recs c) A) eh ei ∙ ap (λ (k : ℕ). inside_run notes r a y d h' q i' (forest recs k) A) ec
 
 module _ (recs notes : List ℕ) {q d : ℕ} where
-  pub turn_holds : (a : Part) (o : Outs) (w : List ℕ) (s : CleanStack) {c : ℕ} → c ≡ first recs q → Turn recs notes a q d o w c s o w c 0 s
-  turn_holds a o w s {c} e =
+  pub turn_holds : (a : Part) (w : Context) (s : CleanStack) {c : ℕ} → c ≡ first recs q → Turn recs notes a q d w c s w c 0 s
+  turn_holds a w s {c} e =
       record {
         first = refl;
         link = subst (Onward recs q) (sym e) (first_onward recs q);
         fall = omega arith;
         few = λ ne. omega (arith, ne);
-        code = refl;
-        consts = refl;
         taken = λ f. refl;
-        work = λ f r x z o' w' h. h;
+        work = λ f r x z w' h. h;
       }
 
-  module _ {o₀ o o₁ o₂ : Outs} {w₀ w w₁ w₂ : List ℕ} {c₀ c x i : ℕ} {s₀ s s' : CleanStack} where
+  module _ {w₀ w w₁ w₂ : Context} {c₀ c x i : ℕ} {s₀ s s' : CleanStack} where
     -- one item of a List
-    pub turn_item : {j : ℕ} → Turn recs notes item q d o₀ w₀ c₀ s₀ o w c i s → (c ≡ 0 → ⊥) → GetsItem recs o w o₁ w₁ (int i) → VisitsPattern recs notes o₁ w₁ o₂ w₂ c d s s'
-        → x ≡ next recs c → j ≡ more i → length o₂.code ≡ length o.code → length o₂.consts ≡ length o.consts
-        → Turn recs notes item q d o₀ w₀ c₀ s₀ o₂ w₂ x j s'
-    turn_item {j} t ne g k ex ej lc ls =
+    pub turn_item : {j : ℕ} → Turn recs notes item q d w₀ c₀ s₀ w c i s → (c ≡ 0 → ⊥) → GetsItem recs w w₁ (int i) → VisitsPattern recs notes w₁ w₂ c d s s'
+        → x ≡ next recs c → j ≡ more i
+        → Turn recs notes item q d w₀ c₀ s₀ w₂ x j s'
+    turn_item {j} t ne g k ex ej =
         record {
           first = k.first ∙ t.first;
           link = onward_next recs q c x t.link ne ex;
           fall = omega (arith, rank_next recs c x ex, t.fall);
           few = rises recs c x i j ne ex (t.few ne) (omega (arith, ej, more_least i));
-          code = lc ∙ t.code;
-          consts = ls ∙ t.consts;
           taken = λ f.
               let h = k.taken (child_deep recs d q c t.link f) in
               t.taken f ∙ item_after recs d s.taken c ne
               ∙ ap₂ (λ (n l : ℕ). labels_after item d n (own_tree (forest recs l))) (sym h) (sym ex);
-          work = λ f r y e o' w' z.
+          work = λ f r y e w' z.
               let deep = child_deep recs d q c t.link f in
               let tested = k.visits deep r y (ap (λ (l : LabelId). l.0) t.first ∙ e) in
-              t.work f r y e o' w' (resim (λ v sc A.
+              t.work f r y e w' (resim (λ v sc A.
               item_turn recs notes r y d s.taken q i c A ne
               ∙ same_inside recs notes item r y d q _ (sym (k.taken deep)) (sym (one_more recs q c i j t.link ne f.0 (t.few ne) ej)) (sym ex))
               (then (then (moves_sim (g.moves r q)) tested) z));
         }
 
     -- one pair of a Table; the last may lack its pattern
-    pub turn_pair : {l : ℕ} → Turn recs notes key q d o₀ w₀ c₀ s₀ o w c i s → (c ≡ 0 → ⊥) → l ≡ next recs c → GetsItem recs o w o₁ w₁ (lit_of (words recs c))
-        → VisitsPattern recs notes o₁ w₁ o₂ w₂ l d s s' → x ≡ next recs l → length o₂.code ≡ length o.code → length o₂.consts ≡ length o.consts
-        → Turn recs notes key q d o₀ w₀ c₀ s₀ o₂ w₂ x (suc (suc i)) s'
-    turn_pair {l} t ne el g k ex lc ls =
+    pub turn_pair : {l : ℕ} → Turn recs notes key q d w₀ c₀ s₀ w c i s → (c ≡ 0 → ⊥) → l ≡ next recs c → GetsItem recs w w₁ (lit_of (words recs c))
+        → VisitsPattern recs notes w₁ w₂ l d s s' → x ≡ next recs l
+        → Turn recs notes key q d w₀ c₀ s₀ w₂ x (suc (suc i)) s'
+    turn_pair {l} t ne el g k ex =
         let at : Onward recs q l = onward_next recs q c l t.link ne el in
         record {
           first = k.first ∙ t.first;
           link = onward_past recs q l x at ex;
           fall = omega (arith, rank_next recs c l el, rank_next recs l x ex, t.fall);
           few = twice recs c l x i ne el ex (t.few ne);
-          code = lc ∙ t.code;
-          consts = ls ∙ t.consts;
           taken = λ f.
               let h = k.taken (child_deep recs d q l at f) in
               t.taken f ∙ key_after recs d s.taken c ne ∙ ap (λ (y : ℕ). labels_after value d s.taken (own_tree (forest recs y))) (sym el)
               ∙ value_after recs d s.taken l ∙ ap₂ (λ (n y : ℕ). labels_after key d n (own_tree (forest recs y))) (sym h) (sym ex);
-          work = λ f r y e o' w' z.
+          work = λ f r y e w' z.
               let deep = child_deep recs d q l at f in
               let tested = k.visits deep r y (ap (λ (m : LabelId). m.0) t.first ∙ e) in
-              t.work f r y e o' w' (resim (λ v sc A.
+              t.work f r y e w' (resim (λ v sc A.
               key_turn recs notes r y d s.taken q i c A ne
               ∙ ap (λ (n : ℕ). inside_run notes r value y d s.taken q (suc i) (forest recs n) (item_run r c (lit_of (words recs c)) A)) (sym el)
               ∙ value_turn recs notes r y d s.taken q (suc i) l (item_run r c (lit_of (words recs c)) A)
@@ -310,11 +298,11 @@ nested_run recs notes r x d h q n g D c a A nq en ea es eg eD ec =
     run : Part → ℕ → ℕ → ℕ → ℕ → State → State
     run p k i f m B = emit (mark r (Do Pop 0)) (inside_run notes r p x k i q 0 (forest recs f) (table_run r (x + suc d) q w m B))
 
-module _ (recs notes : List ℕ) {q d D n l c₀ c i : ℕ} {s s₁ s₂ : CleanStack} {code consts w w₁ : List ℕ} {o₂ : Outs} {w₂ code₃ consts₃ w₃ code₄ w₄ : List ℕ} where
+module _ (recs notes : List ℕ) {q d D n l c₀ c i : ℕ} {s s₁ s₂ : CleanStack} {w w₁ w₂ w₃ w₄ : Context} where
   pub nested_visits : (a : Part) → (q ≡ 0 → ⊥) → parts (words recs q) ≡ a → is_nested (words recs q) ≡ true → c₀ ≡ first recs q
       → n ≡ cap (pattern_size (words recs q) (own_tree (children recs q))) → D ≡ more d → Deepens w w₁ s s₁ D → l ≡ cap (s₁.first.0 + D)
-      → ((p : ℕ) → WithLabel recs (outs code consts) w₁ o₂ w₂ l (λ r y. table_run r y p (words recs q) n)) → Turn recs notes a q D o₂ w₂ c₀ s₁ (outs code₃ consts₃) w₃ c i s₂
-      → c ≡ 0 → Pushes code₃ w₃ code₄ w₄ (pair_of 0 0) → VisitsPattern recs notes (outs code consts) w (outs code₄ consts₃) w₄ q d s s₂
+      → ((p : ℕ) → WithLabel recs w₁ w₂ l (λ r y. table_run r y p (words recs q) n)) → Turn recs notes a q D w₂ c₀ s₁ w₃ c i s₂
+      → c ≡ 0 → w₄ ≡ pushed (pair_of 0 0) w₃ → VisitsPattern recs notes w w₄ q d s s₂
   nested_visits a nq ea en e₀ es eD deep el test t ec pop =
       record {
         first = t.first ∙ deep.first;
@@ -327,11 +315,11 @@ module _ (recs notes : List ℕ) {q d D n l c₀ c i : ℕ} {s s₁ s₂ : Clean
         visits = λ f r x e.
             let label : l ≡ cap (x + suc d)
             = el ∙ ap (λ (k : LabelId). cap (k.0 + D)) deep.first ∙ cap_after s.first.0 D x e ∙ ap (λ (k : ℕ). cap (x + k)) (depth f) in
-            let opened : Sim (lent recs notes) (outs code consts) w (outs code consts) w₁ (λ v. bumps (cond (ltb D s.taken) 0 1))
-            = record { sim = λ z v o A h. labelled {n = cond (ltb D s.taken) 0 1} (record { label = refl; frame = deep.frame }) h } in
-            let inside = t.work (fits f) r x (ap (λ (k : LabelId). k.0) deep.first ∙ e) (outs code₃ consts₃) w₃
+            let opened : Sim (lent_words recs notes) w w₁ (λ v. bumps (cond (ltb D s.taken) 0 1))
+            = record { sim = λ z v o A h. labelled {n = cond (ltb D s.taken) 0 1} (record { label = refl; context = deep.context }) h } in
+            let inside = t.work (fits f) r x (ap (λ (k : LabelId). k.0) deep.first ∙ e) w₃
             (resim (λ v z A. inside_none recs notes r a x D s₂.taken q i c A ec) stay) in
-            let closed : Sim (lent recs notes) (outs code₃ consts₃) w₃ (outs code₄ consts₃) w₄ (λ v. emit (mark r (Do Pop 0)))
+            let closed : Sim (lent_words recs notes) w₃ w₄ (λ v. emit (mark r (Do Pop 0)))
             = record { sim = λ z v o A h. said r Pop 0 refl refl pop h } in
             resim (λ v z A. nested_run recs notes r x d s.taken q n s₁.taken D c₀ a A nq en ea (count f.0) (labels f) (depth f) e₀)
             (then (then (then opened (moves_sim ((test q).moves r (x + suc d) label))) inside) closed);

@@ -3,79 +3,49 @@ ghost use Rattle.pattern.specs.Promises.{TestsPattern, TestsCase, Tests};
 
 use crate::clean::{clean_stack, clean_up};
 use crate::depth::visit_pattern_depth;
-use emit::frame::Frame;
-use emit::label::next_label;
-use emit::op::{push_copy, push_jump, push_pop};
+use context::Context;
+use context::label::next_label;
+use context::tree::Tree;
 use opcode::index::LabelId;
+use opcode::opcode::OpCode;
 use plain::children::first_child;
-use pool::notes::Notes;
 use tables::ast::{next, p};
 
 // One pattern: where it matches, the jump to its Case's block.
-fn test(
-    recs: &[u32],
-    notes: &Notes,
-    code: &mut [u32],
-    consts: &mut [u32],
-    frame: &mut Frame,
-    pattern: usize,
-    block_label: LabelId,
-)
-    ensures { TestsPattern recs.now notes.now code.old consts.old frame.old
-        code.new consts.new frame.new pattern block_label.0 }
+fn test(tree: &Tree, cx: &mut Context, pattern: usize, block_label: LabelId)
+    ensures { TestsPattern tree.now.records.now tree.now.notes.now cx.old cx.new pattern block_label.0 }
 {
-    let stack = clean_stack(frame);
-    push_copy(code, frame, 1);
-    let taken = visit_pattern_depth(recs, notes, code, consts, frame, pattern, 0, stack);
-    push_pop(code, frame);
-    push_jump(code, frame, block_label);
-    clean_up(code, frame, taken)
+    let stack = clean_stack(cx);
+    cx.push_op(OpCode::Copy(1));
+    let taken = visit_pattern_depth(tree, cx, pattern, 0, stack);
+    cx.push_op(OpCode::Pop);
+    cx.push_op(OpCode::Jump(block_label));
+    clean_up(cx, taken)
 }
 
 // The patterns of one Case.
-fn case_patterns(
-    recs: &[u32],
-    notes: &Notes,
-    code: &mut [u32],
-    consts: &mut [u32],
-    frame: &mut Frame,
-    case: usize,
-    block_label: LabelId,
-)
-    ensures { TestsCase recs.now notes.now code.old consts.old frame.old
-        code.new consts.new frame.new «case» block_label.0 }
+fn case_patterns(tree: &Tree, cx: &mut Context, case: usize, block_label: LabelId)
+    ensures { TestsCase tree.now.records.now tree.now.notes.now cx.old cx.new «case» block_label.0 }
 {
-    let n = p(recs, case);
-    let mut pattern = first_child(recs, case);
-    let mut i: u32 = 0;
-    while i < n {
+    let mut pattern = first_child(tree.records, case);
+    for _ in 0..p(tree.records, case) {
         if pattern == 0 {
             return;
         }
-        test(recs, notes, code, consts, frame, pattern, block_label);
-        pattern = next(recs, pattern);
-        i += 1;
+        test(tree, cx, pattern, block_label);
+        pattern = next(tree.records, pattern);
     }
 }
 
 // The patterns of the Cases from the record `cases` on; their blocks' labels follow one another.
-pub fn patterns(
-    recs: &[u32],
-    notes: &Notes,
-    code: &mut [u32],
-    consts: &mut [u32],
-    frame: &mut Frame,
-    cases: usize,
-    block_label: LabelId,
-)
-    ensures { Tests recs.now notes.now code.old consts.old frame.old
-        code.new consts.new frame.new cases block_label.0 }
+pub fn patterns(tree: &Tree, cx: &mut Context, cases: usize, block_label: LabelId)
+    ensures { Tests tree.now.records.now tree.now.notes.now cx.old cx.new cases block_label.0 }
 {
     let mut case = cases;
     let mut label = block_label;
     while case != 0 {
-        case_patterns(recs, notes, code, consts, frame, case, label);
-        case = next(recs, case);
+        case_patterns(tree, cx, case, label);
+        case = next(tree.records, case);
         label = next_label(label);
     }
 }

@@ -1,14 +1,12 @@
 // clean_stack_label_stack: its labels are taken one behind the other, so it is the first of them and how many.
 ghost use Rattle.std.specs.Prelude.{◌≡◌, ◌+◌};
-ghost use Rattle.emit.specs.Words.{cap};
+ghost use Rattle.context.specs.Words.{cap};
 ghost use Rattle.pattern.specs.Promises.{Begins, Deepens, Cleans};
 
-use emit::code::push_label;
-use emit::frame::Frame;
-use emit::label::{get_label, label_at};
-use emit::op::push_pop;
-use emit::word::inc;
+use context::Context;
+use context::label::label_at;
 use opcode::index::LabelId;
+use opcode::opcode::OpCode;
 
 #[derive(Clone, Copy)]
 pub struct CleanStack {
@@ -17,25 +15,25 @@ pub struct CleanStack {
 }
 
 // vec![get_label()]
-pub fn clean_stack(frame: &mut Frame) -> CleanStack
-    ensures { Begins frame.old frame.new result }
+pub fn clean_stack(cx: &mut Context) -> CleanStack
+    ensures { Begins cx.old cx.new result }
 {
-    let first = get_label(frame);
+    let first = cx.get_label();
     CleanStack { first, taken: 1 }
 }
 
 // get_or_push_pattern_clean_stack_label: one label more where there is none at this depth.
-pub fn deepened(frame: &mut Frame, stack: CleanStack, depth: u32) -> CleanStack
-    ensures { Deepens frame.old frame.new stack result depth }
+pub fn deepened(cx: &mut Context, stack: CleanStack, depth: u32) -> CleanStack
+    ensures { Deepens cx.old cx.new stack result depth }
 {
     if depth < stack.taken {
         return stack;
     }
     let first = stack.first;
-    get_label(frame);
+    cx.get_label();
     CleanStack {
         first,
-        taken: inc(stack.taken),
+        taken: stack.taken.saturating_add(1),
     }
 }
 
@@ -48,14 +46,12 @@ pub fn clean_stack_label(stack: CleanStack, depth: u32) -> LabelId
 }
 
 // From the last label to the first, with a Pop between two.
-pub fn clean_up(code: &mut [u32], frame: &mut Frame, stack: CleanStack)
-    ensures { Cleans code.old frame.old code.new frame.new stack }
+pub fn clean_up(cx: &mut Context, stack: CleanStack)
+    ensures { Cleans cx.old cx.new stack }
 {
-    let mut n = stack.taken;
-    while 1 < n {
-        n -= 1;
-        push_label(code, frame, clean_stack_label(stack, n));
-        push_pop(code, frame);
+    for n in (1..stack.taken).rev() {
+        cx.push_label(clean_stack_label(stack, n));
+        cx.push_op(OpCode::Pop);
     }
-    push_label(code, frame, clean_stack_label(stack, 0))
+    cx.push_label(clean_stack_label(stack, 0))
 }

@@ -12,9 +12,9 @@ use Rattle.tables.specs.Forest.{Forest, Nodes, bare, node, first, next, forest, 
 use Rattle.tables.proofs.ForestLaws.{forest_absent, forest_record, next_onward, Onward, next_zero}
 use Rattle.rules.specs.Step.{width}
 use Rattle.rules.specs.Arms.{arguments, handlers, is_tail}
-use Rattle.emit.specs.Does.{nth, child}
-use Rattle.emit.proofs.Basics.{clash}
-use Rattle.emit.proofs.PartLaws.{width_none, width_some}
+use Rattle.context.specs.Does.{nth, child}
+use Rattle.context.proofs.Basics.{clash}
+use Rattle.context.proofs.PartLaws.{width_none, width_some}
 
 fewer : (b : Bool) (n m : ℕ) → n ≤ m → cond b 0 (suc n) ≤ suc m
 fewer true n m h = omega arith

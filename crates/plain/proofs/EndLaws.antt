@@ -6,7 +6,7 @@ use Prim.Native.Nat.{ℕ, zero, suc, ◌-◌}
 use native.Mathlib.Omega.{arith}
 use lib.Dec.{eqb}
 use lib.ListN.{length}
-use borrow.Author.Tests.{eqb-true, eq-eqb, ne_eqb}
+use borrow.Author.Tests.{eq-eqb, ne_eqb}
 use Rattle.opcode.specs.declared.index.LabelId.{LabelId}
 use Rattle.opcode.specs.Members.{member_number}
 use Rattle.opcode.specs.declared.member.MemberKind.{MemberKind}
@@ -21,15 +21,16 @@ use Rattle.rules.specs.Step.{After, Set, Step, push_op, access, width}
 use Rattle.rules.specs.Arms.{arguments, handlers, is_method, set_code, simple_import, after_steps}
 use Rattle.rules.specs.Kinds.{steps}
 use Rattle.rules.specs.Run.{Loop, State, loops, emit, halt, way_kind, way_out, outward, exec}
-use Rattle.emit.specs.Words.{cap, more, DEPTH, at}
-use Rattle.emit.specs.Sinks.{stopped, loop_at, continue_of, break_of}
-use Rattle.emit.specs.Rep.{Outs, Walk, Rep, Lent}
-use Rattle.emit.specs.Does.{nth, child, visit_in, doing, does}
-use Rattle.emit.proofs.Basics.{on_true, on_false, no_emit}
-use Rattle.emit.specs.declared.loops.LabelLookup.TheVariants.{Found, Absent}
-use Rattle.emit.proofs.RepLaws.{given}
-use Rattle.emit.proofs.LeaveLaws.{left_none}
-use Rattle.emit.proofs.VisitLaws.{visit_does}
+use Rattle.std.specs.Prelude.{Option, None, Some}
+use Rattle.context.specs.Words.{cap, more}
+use Rattle.context.specs.Sinks.{stopped, continue_of, behind}
+use Rattle.context.specs.declared.Context.{Context}
+use Rattle.context.specs.Rep.{Walk, Rep, Lent}
+use Rattle.context.specs.Does.{nth, child, visit_in, doing, does}
+use Rattle.context.proofs.Basics.{on_true, on_false, no_emit}
+use Rattle.context.proofs.RepLaws.{given}
+use Rattle.context.proofs.LeaveLaws.{apart, all_closed, left_none}
+use Rattle.context.proofs.VisitLaws.{visit_does}
 use Rattle.plain.specs.Operators.{member_of, is_meta}
 use Rattle.plain.specs.Runs.{argument_count, use_at, set_run, simple_store}
 use Rattle.plain.proofs.GoLaws.{halt_not}
@@ -159,35 +160,24 @@ module _ (e : Lent) (c : Walk) (r : ℕ) where
 
 -- ---- a Break or a Continue: the break label is right behind the continue label
 
-pub no_break : (w : List ℕ) → break_of w ≡ Absent → continue_of w ≡ Absent
-no_break w e = by (eqb (at w DEPTH) 0) (loop_at w (at w DEPTH - 1)) e
-  where
-    by : (b : Bool) (k : ℕ) → cond b Absent (Found (record { 0 = more k })) ≡ Absent → cond b Absent (Found (record { 0 = k })) ≡ Absent
-    by true k z = refl
-    by false k z = absurd (let y : ◌≡◌ {A = ℕ} 0 1 = cc in omega arith)
+pub no_break : (f : Option LabelId) → behind f ≡ None → f ≡ None
+no_break None e = refl
+no_break (Some l) e = absurd (apart (sym e))
 
-module _ (w : List ℕ) (l : LabelId) (e : break_of w ≡ Found l) where
-  pub break_behind : (continue_of w ≡ Found (record { 0 = loop_at w (at w DEPTH - 1) })) × (l.0 ≡ more (loop_at w (at w DEPTH - 1)))
-  break_behind = by (eqb (at w DEPTH) 0) (loop_at w (at w DEPTH - 1)) e
-    where
-      by : (b : Bool) (k : ℕ) → cond b Absent (Found (record { 0 = more k })) ≡ Found l
-          → (cond b Absent (Found (record { 0 = k })) ≡ Found (record { 0 = k })) × (l.0 ≡ more k)
-      by true k z = absurd (let y : ◌≡◌ {A = ℕ} 0 1 = cc in omega arith)
-      by false k z = (refl, cc)
+pub break_behind : (f : Option LabelId) (l : LabelId) → behind f ≡ Some l → (m : LabelId) × (f ≡ Some m) × (l.0 ≡ more m.0)
+break_behind None l e = absurd (apart e)
+break_behind (Some m) l e = (m, refl, ap number (sym e))
+  where
+    number : Option LabelId → ℕ
+    number None = 0
+    number (Some k) = k.0
 
 -- what ends the run keeps the Null behind it from being pushed
-pub cut_off : {c : Walk} {records : List ℕ} {o₀ o : Outs} {A : State} (w : List ℕ) {w' : List ℕ} (r : ℕ) (p : Words) (y : Way) (m : Mark) → continue_of w ≡ Absent
-    → w' ≡ stopped (Cut (way_kind y) p.start p.end) w → Rep c records o₀ A o w → Rep c records o₀ (emit m (outward r p y A)) o w'
+pub cut_off : {c : Walk} {records : List ℕ} {o₀ : Context} {A : State} {w w' : Context} {f : Option LabelId} (r : ℕ) (p : Words) (y : Way) (m : Mark) → f ≡ continue_of w
+    → f ≡ None → w' ≡ stopped (Cut (way_kind y) p.start p.end) w → Rep c records o₀ A w → Rep c records o₀ (emit m (outward r p y A)) w'
 unfolding outward
-cut_off {A = A} w r p y m e k h = given (by (loops A) (sym h.reads.depth ∙ no_depth e)) (left_none r p y (sym e) refl k h)
+cut_off {A = A} r p y m e n k h = given (by (loops A) (all_closed r p y e h n)) (left_none r p y e h n k)
   where
-    no_depth : continue_of w ≡ Absent → at w DEPTH ≡ 0
-    no_depth q = go (eqb (at w DEPTH) 0) (record { 0 = loop_at w (at w DEPTH - 1) }) refl q
-      where
-        go : (b : Bool) (l : LabelId) → eqb (at w DEPTH) 0 ≡ b → cond b Absent (Found l) ≡ Absent → at w DEPTH ≡ 0
-        go true l z u = eqb-true _ _ z
-        go false l z u = absurd (let v : ◌≡◌ {A = ℕ} 0 1 = cc in omega arith)
-
-    by : (ls : List Loop) → length ls ≡ 0 → emit m (way_out r p y ls A) ≡ way_out r p y ls A
+    by : (ls : List Loop) → ls ≡ [] → emit m (way_out r p y ls A) ≡ way_out r p y ls A
     by [] z = no_emit m _ (halt_not (Cut (way_kind y) p.start p.end) A refl)
-    by (x ∷ ls) z = absurd (omega arith)
+    by (x ∷ ls) z = absurd (let v : suc (length ls) ≡ 0 = ap length z in omega arith)

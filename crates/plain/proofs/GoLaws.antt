@@ -1,40 +1,19 @@
--- A marker counts only where the run goes on, and so does the label that it names. Assumes nothing.
+-- What steps do to the flow and the labels. Assumes nothing.
 use mathlib.Core.Path.{◌≡◌, refl, sym, ap, ◌∙◌}
-use mathlib.Core.Bool.{Bool, true, false, cond}
+use mathlib.Core.Bool.{false}
 use mathlib.Core.List.{List, ◌++◌}
 use Prim.Native.Nat.{ℕ, suc, ◌+◌, ◌<◌}
 use native.Mathlib.Omega.{arith}
-use lib.Dec.{ltb}
 use lib.ListN.{get_or, get_or-append, length}
 use lib.Seq.{get_or-append-add}
-use Rattle.opcode.specs.declared.opcode.Words.{Words as MarkerWords}
 use Rattle.pool.specs.Names.{Access, local, global, upvalue, missing}
 use Rattle.rules.specs.declared.Flow.{Flow}
 use Rattle.rules.specs.declared.Flow.TheVariants.{Go, Cut, Refused}
-use Rattle.rules.specs.Marker.{Op, Mark, mark}
+use Rattle.rules.specs.Marker.{Mark}
 use Rattle.rules.specs.Step.{Use}
 use Rattle.rules.specs.Run.{State, st, labels, flow, emit, bump, halt, sought}
-use Rattle.emit.specs.Words.{limit, cap, MARKERS, at, goes, nests}
-use Rattle.emit.specs.Sinks.{writes, Pushes}
-use Rattle.emit.specs.Rep.{Outs, outs, Walk, Rep, Shown}
-use Rattle.emit.proofs.Basics.{is_go, clash, on_false, no_emit}
-use Rattle.emit.proofs.RepLaws.{given, went, stood}
-use Rattle.emit.proofs.MarkLaws.{pushed, same_words}
-
--- a marker's words are asked for only where the run goes on
-pub go_pushed : {c : Walk} {records : List ℕ} {o₀ : Outs} {A : State} {o w o' w' cs : List ℕ} {x : MarkerWords} (r : ℕ) (y : Op) → (flow A ≡ Go → Shown x y)
-    → Pushes o w o' w' x → Rep c records o₀ A (outs o cs) w → Rep c records o₀ (emit (mark r y) A) (outs o' cs) w'
-go_pushed {c} {records} {o₀} {A} {o} {w} {o'} {w'} {cs} r y q k h = by (goes (at w)) refl
-  where
-    no_writes : (a g b : Bool) → g ≡ false → cond a false (cond g b false) ≡ false
-    no_writes true g b e = refl
-    no_writes false g b e = on_false _ _ _ e
-
-    by : (b : Bool) → goes (at w) ≡ b → Rep c records o₀ (emit (mark r y) A) (outs o' cs) w'
-    by true g = pushed r y (λ n. q (went h g)) k h
-    by false g =
-        let e : writes (at w) ≡ false = no_writes (nests (at w)) (goes (at w)) (ltb (at w MARKERS) limit) g in
-        same_words (k.code ∙ on_false _ _ _ e) (k.frame ∙ on_false _ _ _ e) (given (no_emit (mark r y) A (stood h g)) h)
+use Rattle.context.specs.Words.{cap, is_go}
+use Rattle.context.proofs.Basics.{clash}
 
 -- ---- flow and labels after a step
 

@@ -11,7 +11,7 @@ use Rattle.opcode.specs.declared.index.FunctionId.{FunctionId}
 use Rattle.tables.specs.Record.{Words, words, word, size}
 use Rattle.tables.specs.Forest.{none, tree, first, next, forest, children, own_tree}
 use Rattle.pool.specs.Value.{Null, zeros, plain, lit, int, str, function, yield, effect_at, child as words-at}
-use Rattle.pool.specs.Consts.{const_of, made, words as three}
+use Rattle.pool.specs.Consts.{const_of, constant, made, words as three}
 use Rattle.pool.specs.ConstValues.{words_of, lit_of}
 use Rattle.pool.specs.declared.value.ConstValue.TheVariants as value
 use Rattle.pool.proofs.EffectLaws.{words_none, words_some}
@@ -19,13 +19,14 @@ use Rattle.rules.specs.Step.{Use, ChildPath}
 use Rattle.rules.specs.Marker.{ConstOp, LoadConst, Load, mark}
 use Rattle.rules.specs.Run.{State, emit, here, number_of, spot_at, sought}
 use Rattle.rules.specs.Out.{brought, const_number}
-use Rattle.emit.specs.Words.{limit, cap}
-use Rattle.emit.specs.Sinks.{constant, Loads, Uses}
-use Rattle.emit.specs.Rep.{Outs, outs, Walk, Rep, Lent, Scoped}
-use Rattle.emit.specs.Does.{nth, reach, access_noted, noted_look}
-use Rattle.emit.proofs.ConstLaws.{loaded}
-use Rattle.emit.proofs.NameLaws.{accessed}
-use Rattle.emit.proofs.VisitLaws.{spot_child, ident_number, number_spot}
+use Rattle.context.specs.Words.{limit, cap}
+use Rattle.context.specs.Sinks.{loads, used as used_of}
+use Rattle.context.specs.Rep.{Walk, Rep, Lent, Scoped}
+use Rattle.context.specs.declared.Context.{Context}
+use Rattle.context.specs.Does.{nth, reach, access_noted, noted_look}
+use Rattle.context.proofs.ConstLaws.{loaded}
+use Rattle.context.proofs.NameLaws.{accessed}
+use Rattle.context.proofs.VisitLaws.{spot_child, ident_number, number_spot}
 use Rattle.plain.specs.Runs.{use_at}
 
 -- ---- constants
@@ -71,55 +72,55 @@ effect_brought e d r k n h q en =
     let z : n ≡ r = omega arith in
     ap (λ (x : ℕ). const_of e.records 7 x h) z
 
-module _ {c : Walk} {recs : List ℕ} {o₀ : Outs} {A : State} {o cs w o' cs' w' : List ℕ} (r : ℕ) where
+module _ {c : Walk} {recs : List ℕ} {o₀ : Context} {A : State} {w w' : Context} (r : ℕ) where
   -- push_load_const of a value that no record brings, and the two that import
-  pub plain_loaded : (y : ConstOp) (k p q : ℕ) {n : ℕ} → (k ≡ 7 → ⊥) → n ≡ p → Loads recs o cs w o' cs' w' (const_number y) (three k n q) → Rep c recs o₀ A (outs o cs) w
-      → Rep c recs o₀ (emit (mark r (Load y (plain k p q))) A) (outs o' cs') w'
-  plain_loaded y k p q {n} ne e h x = loaded y r (plain k p q) (λ z. absurd (ne z)) (plain_brought recs r k n q p ne e) h x
+  pub plain_loaded : (y : ConstOp) (k p q : ℕ) {n : ℕ} → (k ≡ 7 → ⊥) → n ≡ p → w' ≡ loads recs (const_number y) (three k n q) w → Rep c recs o₀ A w
+      → Rep c recs o₀ (emit (mark r (Load y (plain k p q))) A) w'
+  plain_loaded y k p q {n} ne e h x = loaded _ y r (plain k p q) (λ z. absurd (ne z)) (plain_brought recs r k n q p ne e) h x
 
-  pub nulled : Loads recs o cs w o' cs' w' 6 (words_of value.Null) → Rep c recs o₀ A (outs o cs) w
-      → Rep c recs o₀ (emit (mark r (Load LoadConst Null)) A) (outs o' cs') w'
+  pub nulled : w' ≡ loads recs 6 (words_of value.Null) w → Rep c recs o₀ A w
+      → Rep c recs o₀ (emit (mark r (Load LoadConst Null)) A) w'
   nulled h x = plain_loaded LoadConst 0 0 0 (λ z. omega arith) refl h x
 
-  pub yielded : Loads recs o cs w o' cs' w' 6 (words_of value.Yield) → Rep c recs o₀ A (outs o cs) w
-      → Rep c recs o₀ (emit (mark r (Load LoadConst yield)) A) (outs o' cs') w'
+  pub yielded : w' ≡ loads recs 6 (words_of value.Yield) w → Rep c recs o₀ A w
+      → Rep c recs o₀ (emit (mark r (Load LoadConst yield)) A) w'
   yielded h x = plain_loaded LoadConst 8 0 0 (λ z. omega arith) refl h x
 
-  pub int_loaded : {i : ℕ} (n : ℕ) → i ≡ n → Loads recs o cs w o' cs' w' 6 (words_of (value.Int i 0)) → Rep c recs o₀ A (outs o cs) w
-      → Rep c recs o₀ (emit (mark r (Load LoadConst (int n))) A) (outs o' cs') w'
+  pub int_loaded : {i : ℕ} (n : ℕ) → i ≡ n → w' ≡ loads recs 6 (words_of (value.Int i 0)) w → Rep c recs o₀ A w
+      → Rep c recs o₀ (emit (mark r (Load LoadConst (int n))) A) w'
   int_loaded n e h x = plain_loaded LoadConst 2 n 0 (λ z. omega arith) e h x
 
-  pub str_loaded : (y : ConstOp) {s : ℕ} (n : ℕ) → s ≡ n → Loads recs o cs w o' cs' w' (const_number y) (words_of (value.Str s)) → Rep c recs o₀ A (outs o cs) w
-      → Rep c recs o₀ (emit (mark r (Load y (str n))) A) (outs o' cs') w'
+  pub str_loaded : (y : ConstOp) {s : ℕ} (n : ℕ) → s ≡ n → w' ≡ loads recs (const_number y) (words_of (value.Str s)) w → Rep c recs o₀ A w
+      → Rep c recs o₀ (emit (mark r (Load y (str n))) A) w'
   str_loaded y n e h x = plain_loaded y 4 n 0 (λ z. omega arith) e h x
 
-  pub function_loaded : {f : FunctionId} (n : ℕ) → f.0 ≡ n → Loads recs o cs w o' cs' w' 6 (words_of (value.Function f)) → Rep c recs o₀ A (outs o cs) w
-      → Rep c recs o₀ (emit (mark r (Load LoadConst (function n))) A) (outs o' cs') w'
+  pub function_loaded : {f : FunctionId} (n : ℕ) → f.0 ≡ n → w' ≡ loads recs 6 (words_of (value.Function f)) w → Rep c recs o₀ A w
+      → Rep c recs o₀ (emit (mark r (Load LoadConst (function n))) A) w'
   function_loaded n e h x = plain_loaded LoadConst 6 n 0 (λ z. omega arith) e h x
 
-  pub lit_loaded : (d p q : ℕ) → Loads recs o cs w o' cs' w' 6 (words_of (lit_of d p q)) → Rep c recs o₀ A (outs o cs) w
-      → Rep c recs o₀ (emit (mark r (Load LoadConst (lit d p q))) A) (outs o' cs') w'
-  lit_loaded d p q h x = loaded LoadConst r (lit d p q) (λ z. absurd (let y : (words_of (lit_of d p q)).kind ≤ 5 = lit_kind d p q in omega arith)) (lit_brought recs r d p q) h x
+  pub lit_loaded : (d p q : ℕ) → w' ≡ loads recs 6 (words_of (lit_of d p q)) w → Rep c recs o₀ A w
+      → Rep c recs o₀ (emit (mark r (Load LoadConst (lit d p q))) A) w'
+  lit_loaded d p q h x = loaded _ LoadConst r (lit d p q) (λ z. absurd (let y : (words_of (lit_of d p q)).kind ≤ 5 = lit_kind d p q in omega arith)) (lit_brought recs r d p q) h x
 
 -- the effect that record r, of kind k + 1, brings
-pub effect_loaded : {c : Walk} (e : Lent) {o₀ : Outs} {A : State} {o cs w o' cs' w' : List ℕ} (r : ℕ) → Scoped e → {k n : ℕ} → word e.records r 0 ≡ suc k → n ≡ cap r
-    → Loads e.records o cs w o' cs' w' 6 (words_of (value.Effect n)) → Rep c e.records o₀ A (outs o cs) w
-    → Rep c e.records o₀ (emit (mark r (Load LoadConst (effect_at e.records r))) A) (outs o' cs') w'
-effect_loaded e r d {k} {n} q en h x = loaded LoadConst r (effect_at e.records r) (λ z. refl) (effect_brought e d r k n 0 q en) h x
+pub effect_loaded : {c : Walk} (e : Lent) {o₀ : Context} {A : State} {w w' : Context} (r : ℕ) → Scoped e → {k n : ℕ} → word e.records r 0 ≡ suc k → n ≡ cap r
+    → w' ≡ loads e.records 6 (words_of (value.Effect n)) w → Rep c e.records o₀ A w
+    → Rep c e.records o₀ (emit (mark r (Load LoadConst (effect_at e.records r))) A) w'
+effect_loaded e r d {k} {n} q en h x = loaded _ LoadConst r (effect_at e.records r) (λ z. refl) (effect_brought e d r k n 0 q en) h x
 
 -- ---- names
 
-module _ {c : Walk} (e : Lent) {o₀ : Outs} {A : State} {o w o' w' cs : List ℕ} (r : ℕ) where
+module _ {c : Walk} (e : Lent) {o₀ : Context} {A : State} {w w' : Context} (r : ℕ) where
   -- the Ident at record i
-  pub used_at : (u : Use) (i : ℕ) → Uses o w o' w' u i (access_noted e.notes u i) → Rep c e.records o₀ A (outs o cs) w
-      → Rep c e.records o₀ (use_at e r u i A) (outs o' cs) w'
+  pub used_at : (u : Use) (i : ℕ) → w' ≡ used_of u i (access_noted e.notes u i) w → Rep c e.records o₀ A w
+      → Rep c e.records o₀ (use_at e r u i A) w'
   used_at u i h x = accessed r e.notes zeros u (here i zeros) refl h x
 
   -- the Ident that is child j
-  pub used_child : (u : Use) (j : ℕ) {i : ℕ} → i ≡ nth e.records j (first e.records r) → Uses o w o' w' u i (access_noted e.notes u i)
-      → Rep c e.records o₀ A (outs o cs) w
+  pub used_child : (u : Use) (j : ℕ) {i : ℕ} → i ≡ nth e.records j (first e.records r) → w' ≡ used_of u i (access_noted e.notes u i) w
+      → Rep c e.records o₀ A w
       → Rep c e.records o₀ (sought r u (number_of (spot_at (tree r (words e.records r) (children e.records r) none) (j ∷ [])))
-      (noted_look e.notes (words e.records c.function) u (spot_at (tree r (words e.records r) (children e.records r) none) (j ∷ []))) A) (outs o' cs) w'
+      (noted_look e.notes (words e.records c.function) u (spot_at (tree r (words e.records r) (children e.records r) none) (j ∷ []))) A) w'
   used_child u j {i} q h x =
       accessed r e.notes (words e.records c.function) u (spot_at (tree r (words e.records r) (children e.records r) none) (j ∷ []))
       (ident_number e.records r (words e.records r) j q) h x

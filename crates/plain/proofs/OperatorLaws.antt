@@ -4,32 +4,28 @@ use mathlib.Core.Bool.{Bool, true, false, cond, not, ◌&&◌, ◌||◌}
 use mathlib.Core.List.{List, [], ◌∷◌}
 use Prim.Native.Nat.{ℕ, zero, suc, ◌-◌, ◌%◌, ◌≤◌, ◌<◌, min}
 use native.Mathlib.Omega.{arith}
-use lib.ListN.{length, get_or}
+use lib.ListN.{get_or-eq_default}
+use Rattle.std.proofs.Common.{Option, Some, None, unwrap_or, ok_or}
+use Rattle.std.specs.Result.{result_unwrap_or}
+use Rattle.std.proofs.lemmas.Option.{unwrap_or-slice_get}
 use lib.Dec.{T, eqb, ltb, lit<}
 use types.Run.{OneOf, miss}
 use mir.Val.{has_key}
 use borrow.Author.Tests.{lt-ltb, le-ltb, ltb-true, ltb-false, eqb-true, eqb-false, eq-eqb, ne_eqb}
 use denote.Enum.Declared.{tag_of}
+use Rattle.opcode.specs.declared.opcode.Words.{Words as MarkerWords}
 use Rattle.opcode.specs.Words.{pair_of, op_words}
-use Rattle.opcode.specs.Operators.{un_ops, bin_ops, bin_number, found_un, found_bin, un_op, bin_op, from_un_op, from_bin_op}
-use Rattle.opcode.specs.Members.{member_kinds, member_number, found_member, member_kind, get_of, set_of}
+use Rattle.opcode.specs.Operators.{un_ops, bin_ops, bin_number, un_op, bin_op, from_un_op, from_bin_op}
+use Rattle.opcode.specs.Members.{member_kinds, member_number, member_kind, get_of, set_of}
 use Rattle.opcode.specs.declared.opcode.OpCode.{OpCode}
-use Rattle.opcode.specs.declared.operator.UnOp.{UnOp}
+use Rattle.opcode.specs.declared.index.UnknownNumber.{UnknownNumber}
 use Rattle.opcode.specs.declared.operator.UnOp.TheVariants as un
 use Rattle.opcode.specs.declared.operator.BinOp.{BinOp}
 use Rattle.opcode.specs.declared.operator.BinOp.TheVariants as bin
 use Rattle.opcode.specs.contracts.operator.BinOp.{the_type as bin_type}
-use Rattle.opcode.specs.declared.operator.UnOpLookup.{UnOpLookup}
-use Rattle.opcode.specs.declared.operator.UnOpLookup.TheVariants as looked-un
-use Rattle.opcode.specs.declared.operator.BinOpLookup.{BinOpLookup}
-use Rattle.opcode.specs.declared.operator.BinOpLookup.TheVariants as looked-bin
-use Rattle.opcode.specs.declared.operator.OpCodeLookup.{OpCodeLookup}
-use Rattle.opcode.specs.declared.operator.OpCodeLookup.TheVariants.{Found, Absent}
 use Rattle.opcode.specs.declared.member.MemberKind.{MemberKind}
 use Rattle.opcode.specs.declared.member.MemberKind.TheVariants as member
 use Rattle.opcode.specs.contracts.member.MemberKind.{the_type as member-type}
-use Rattle.opcode.specs.declared.member.MemberLookup.{MemberLookup}
-use Rattle.opcode.specs.declared.member.MemberLookup.TheVariants as looked
 use Rattle.tables.specs.Record.{Words}
 use Rattle.tables.specs.Forest.{Nodes}
 use Rattle.tables.specs.declared.refusal.RunRule.TheVariants.{Operator}
@@ -39,62 +35,31 @@ use Rattle.rules.specs.Arms.{unary_code, binary_code, no_opcode, is_short_form, 
 use Rattle.rules.specs.Marker.{JumpIfTrueOrPop, JumpIfFalseOrPop, Code, Add, Sub, Mul, Div, Rem, Eq, Ne, Lt, Le, Gt, Ge, SetItem, SetAttr, SetMeta, Do, mark}
 use Rattle.rules.specs.Out.{code_number}
 use Rattle.rules.specs.Run.{State, emit, halt}
-use Rattle.emit.specs.Sinks.{Pushes, stopped}
-use Rattle.emit.specs.Rep.{Outs, outs, Walk, Rep}
-use Rattle.emit.proofs.Basics.{on_true, on_false}
-use Rattle.emit.proofs.RepLaws.{given, halted}
-use Rattle.emit.proofs.MarkLaws.{said, same_words}
-use Rattle.plain.specs.Operators.{binary_of, unary_of, member_of, is_meta, is_short, short_assign, short_jump, PushesFound}
+use Rattle.context.specs.Sinks.{pushed}
+use Rattle.context.specs.declared.Context.{Context}
+use Rattle.context.specs.Rep.{Walk, Rep}
+use Rattle.context.proofs.Basics.{on_true, on_false}
+use Rattle.context.proofs.RepLaws.{given, halted}
+use Rattle.context.proofs.MarkLaws.{said}
+use Rattle.plain.specs.Operators.{binary_of, unary_of, member_of, is_meta, is_short, short_assign, short_jump, with_operator}
 
 -- ---- what a look-up by number finds
 
-module _ {A : Type 0} where
-  -- a place in a list does not ask what stands behind it, and behind it nothing else stands
-  inside : (xs : List A) (n : ℕ) (a b : A) → n < length xs → get_or xs n a ≡ get_or xs n b
-  inside [] n a b h = absurd (omega arith)
-  inside (x ∷ xs) zero a b h = refl
-  inside (x ∷ xs) (suc n) a b h = inside xs n a b (omega arith)
+given_or : {A E : Type 0} (o : Option A) (e : E) (a : A) → result_unwrap_or (ok_or o e) a ≡ unwrap_or o a
+given_or None e a = refl
+given_or (Some x) e a = refl
 
-  past : (xs : List A) (n : ℕ) (a : A) → length xs ≤ n → get_or xs n a ≡ a
-  past [] n a h = refl
-  past (x ∷ xs) zero a h = absurd (omega arith)
-  past (x ∷ xs) (suc n) a h = past xs n a (omega arith)
-
-abbrev pub un_or : UnOpLookup → UnOp
-un_or (looked-un.Found o) = o
-un_or looked-un.Absent = un.Not
-
-abbrev pub bin_or : BinOpLookup → BinOp
-bin_or (looked-bin.Found o) = o
-bin_or looked-bin.Absent = bin.Add
-
-abbrev pub member_or : MemberLookup → MemberKind
-member_or (looked.Found k) = k
-member_or looked.Absent = member.DoubleColonMeta
-
-pub found_unary : (d : ℕ) → un_or (un_op d) ≡ unary_of d
+pub found_unary : (d : ℕ) (e : UnknownNumber) → result_unwrap_or (ok_or (un_op d) e) un.Not ≡ unary_of d
 unfolding un_op unary_of
-found_unary d = by (ltb d 2) refl
-  where
-    by : (b : Bool) → ltb d 2 ≡ b → un_or (found_un b (get_or un_ops d un.Not)) ≡ get_or un_ops d un.Not
-    by true e = refl
-    by false e = sym (past un_ops d un.Not (ltb-false d 2 e))
+found_unary d e = given_or (un_op d) e un.Not ∙ unwrap_or-slice_get un_ops d un.Not
 
-pub found_binary : (d : ℕ) → bin_or (bin_op d) ≡ binary_of d
+pub found_binary : (d : ℕ) (e : UnknownNumber) → result_unwrap_or (ok_or (bin_op d) e) bin.Add ≡ binary_of d
 unfolding bin_op binary_of
-found_binary d = by (ltb d 14) refl
-  where
-    by : (b : Bool) → ltb d 14 ≡ b → bin_or (found_bin b (get_or bin_ops d bin.Add)) ≡ get_or bin_ops d bin.Add
-    by true e = refl
-    by false e = sym (past bin_ops d bin.Add (ltb-false d 14 e))
+found_binary d e = given_or (bin_op d) e bin.Add ∙ unwrap_or-slice_get bin_ops d bin.Add
 
-pub found_member_lem : (n : ℕ) → member_or (member_kind n) ≡ member_of n
+pub found_member_lem : (n : ℕ) (e : UnknownNumber) → result_unwrap_or (ok_or (member_kind n) e) member.DoubleColonMeta ≡ member_of n
 unfolding member_kind member_of
-found_member_lem n = by (ltb n 6) refl
-  where
-    by : (b : Bool) → ltb n 6 ≡ b → member_or (found_member b (get_or member_kinds n member.Bracket)) ≡ get_or member_kinds n member.DoubleColonMeta
-    by true e = inside member_kinds n member.Bracket member.DoubleColonMeta (ltb-true n 6 e)
-    by false e = sym (past member_kinds n member.DoubleColonMeta (ltb-false n 6 e))
+found_member_lem n e = given_or (member_kind n) e member.DoubleColonMeta ∙ unwrap_or-slice_get member_kinds n member.DoubleColonMeta
 
 -- ---- a variant's place is its number
 
@@ -131,9 +96,9 @@ unary_words (suc zero) = refl
 unary_words (suc (suc d)) = refl
 
 -- the opcode of operator d, if it has one
-abbrev Opcode : ℕ → OpCodeLookup → Type 0
-Opcode d (Found x) = (no_opcode d ≡ false) × (op_words x ≡ pair_of (code_number (binary_code d)) 0)
-Opcode d Absent = no_opcode d ≡ true
+abbrev Opcode : ℕ → Option OpCode → Type 0
+Opcode d (Some x) = (no_opcode d ≡ false) × (op_words x ≡ pair_of (code_number (binary_code d)) 0)
+Opcode d None = no_opcode d ≡ true
 
 -- the operator of number d is And, Or, or has the rules' opcode, as d says
 pub record Stands (d : ℕ) (o : BinOp) : Type 0 where
@@ -156,7 +121,7 @@ far d h = record {
   or = sym (behind d 6 (lit< tt) h);
   opcode = (
     has_opcode d h,
-    ap (λ (c : Code). pair_of (code_number c) 0) (sym (past (Add ∷ Sub ∷ Mul ∷ Div ∷ Rem ∷ Add ∷ Add ∷ Eq ∷ Ne ∷ Lt ∷ Le ∷ Gt ∷ Ge ∷ []) d Add (omega arith))),
+    ap (λ (c : Code). pair_of (code_number c) 0) (sym (get_or-eq_default (Add ∷ Sub ∷ Mul ∷ Div ∷ Rem ∷ Add ∷ Add ∷ Eq ∷ Ne ∷ Lt ∷ Le ∷ Gt ∷ Ge ∷ []) Add (omega arith))),
   );
 }
 
@@ -211,16 +176,9 @@ module _ (o : BinOp) (k : Nodes) where
   unfolding short_assign
   short_member ne = sym (ap (λ (x : Bool). x && is_short o) (ne_eqb _ 0 ne))
 
--- an opcode pushed by what was found
-pub pushes_found : {u w u' w' : List ℕ} {x : OpCodeLookup} {y : OpCode} (r : ℕ) → Found y ≡ x → Pushes u w u' w' (op_words y) → PushesFound u w u' w' x r
-pushes_found {u} {w} {u'} {w'} r e k = subst (λ (z : OpCodeLookup). PushesFound u w u' w' z r) e k
-
-pub pushes_none : (u w : List ℕ) {w' : List ℕ} {x : OpCodeLookup} (r : ℕ) → Absent ≡ x → w' ≡ stopped (Refused Operator r) w → PushesFound u w u w' x r
-pushes_none u w {w'} r e k = subst (λ (z : OpCodeLookup). PushesFound u w u w' z r) e (refl, k)
-
--- a code chosen by a value
-pub pair_as : {u w u' w' : List ℕ} {m n l : ℕ} → m ≡ n → Pushes u w u' w' (pair_of n l) → Pushes u w u' w' (pair_of m l)
-pair_as {u} {w} {u'} {w'} {l = l} e k = subst (λ (z : ℕ). Pushes u w u' w' (pair_of z l)) (sym e) k
+-- words known by an equation
+pub push_as : (w : Context) {w' : Context} {u v : MarkerWords} → u ≡ v → w' ≡ pushed u w → w' ≡ pushed v w
+push_as w {w'} e k = subst (λ (z : MarkerWords). w' ≡ pushed z w) e k
 
 module _ {o : BinOp} (d : ℕ) (e : o ≡ binary_of d) where
   stands : Stands d o
@@ -233,15 +191,14 @@ module _ {o : BinOp} (d : ℕ) (e : o ≡ binary_of d) where
   is_or = stands.or
 
   -- an operator's opcode pushed, or the refusal: number 13
-  pub operated : {c : Walk} {records : List ℕ} {o₀ : Outs} {A : State} {u w u' w' cs : List ℕ} (r : ℕ) → PushesFound u w u' w' (from_bin_op o) r
-      → Rep c records o₀ A (outs u cs) w → Rep c records o₀ (cond (no_opcode d) (halt (Refused Operator r) A) (emit (mark r (Do (binary_code d) 0)) A)) (outs u' cs) w'
-  operated {c} {records} {o₀} {A} {u} {w} {u'} {w'} {cs} r k h = by (from_bin_op o) k stands.opcode
+  pub operated : {c : Walk} {records : List ℕ} {o₀ : Context} {A : State} {w w' : Context} (r : ℕ) → w' ≡ with_operator (from_bin_op o) r w
+      → Rep c records o₀ A w → Rep c records o₀ (cond (no_opcode d) (halt (Refused Operator r) A) (emit (mark r (Do (binary_code d) 0)) A)) w'
+  operated {c} {records} {o₀} {A} {w} {w'} r k h = by (from_bin_op o) k stands.opcode
     where
-      by : (x : OpCodeLookup) → PushesFound u w u' w' x r → Opcode d x
-          → Rep c records o₀ (cond (no_opcode d) (halt (Refused Operator r) A) (emit (mark r (Do (binary_code d) 0)) A)) (outs u' cs) w'
-      by (Found x) k q =
-          given (on_false _ _ _ q.0) (said r (binary_code d) 0 refl refl (subst (λ z. Pushes u w u' w' z) q.1 k) h)
-      by Absent k q = given (on_true _ _ _ q) (same_words k.0 refl (halted (Refused Operator r) k.1 h))
+      by : (x : Option OpCode) → w' ≡ with_operator x r w → Opcode d x
+          → Rep c records o₀ (cond (no_opcode d) (halt (Refused Operator r) A) (emit (mark r (Do (binary_code d) 0)) A)) w'
+      by (Some x) k q = given (on_false _ _ _ q.0) (said r (binary_code d) 0 refl refl (push_as w q.1 k) h)
+      by None k q = given (on_true _ _ _ q) (halted (Refused Operator r) k h)
 
   pub short_assign_lem : (k : Nodes) → short_assign o k ≡ is_short_form d k
   unfolding short_assign
@@ -313,7 +270,7 @@ module _ {k : MemberKind} (n : ℕ) (e : k ≡ member_of n) where
       by true q = let h : n < 5 = ltb-true n 5 q in ap set_code (let z : min n 5 ≡ n = omega arith in z)
       by false q =
           let h : 5 ≤ n = ltb-false n 5 q in
-          past (SetItem ∷ SetAttr ∷ SetAttr ∷ []) (min n 5) SetMeta (omega arith) ∙ sym (past (SetItem ∷ SetAttr ∷ SetAttr ∷ []) n SetMeta (omega arith))
+          get_or-eq_default (SetItem ∷ SetAttr ∷ SetAttr ∷ []) SetMeta (omega arith) ∙ sym (get_or-eq_default (SetItem ∷ SetAttr ∷ SetAttr ∷ []) SetMeta (omega arith))
 
   -- the Metas are the numbers from 3 on
   pub is_meta_lem : is_meta k ≡ ltb 2 n

@@ -14,10 +14,10 @@ use Rattle.rules.specs.Marker.{RegisterHandler, Pop, Code, To, Do, Mark, mark}
 use Rattle.rules.specs.Step.{Get, Set, Step, push_op, access, get_labels, push_ops}
 use Rattle.rules.specs.Arms.{registers, items_stored, for_targets}
 use Rattle.rules.specs.Run.{State, labels, flow, emit, bump, exec}
-use Rattle.emit.specs.Rep.{Walk, Lent}
-use Rattle.emit.specs.Does.{nth, child, access_noted, doing}
-use Rattle.emit.proofs.RepLaws.{bumps}
-use Rattle.emit.proofs.PartLaws.{nth_next}
+use Rattle.context.specs.Rep.{Walk, Lent}
+use Rattle.context.specs.Does.{nth, child, access_noted, doing}
+use Rattle.context.proofs.RepLaws.{bumps}
+use Rattle.context.proofs.PartLaws.{nth_next}
 use Rattle.plain.specs.Runs.{repeated, use_at, register, registering, registered, item_put, items_put, targets_put}
 use Rattle.plain.proofs.GoLaws.{emit_flow, emit_labels, bump_flow, bump_labels, sought_labels, sought_flow, env_new}
 use Rattle.plain.proofs.LeafLaws.{use_below}

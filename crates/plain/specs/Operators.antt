@@ -1,5 +1,5 @@
 -- The operator and the member that a record's detail stands for, and what is pushed for them. Definitions only.
-use Rattle.std.specs.Prelude.{◌≡◌, Bool, true, false, cond, ◌&&◌, ◌||◌, List, ℕ, eqb, ltb, get_or}
+use Rattle.std.specs.Prelude.{Option, Some, None, Bool, true, false, cond, ◌&&◌, ◌||◌, ℕ, eqb, ltb, get_or}
 use Rattle.opcode.specs.Words.{op_words}
 use Rattle.opcode.specs.Operators.{un_ops, bin_ops, bin_number}
 use Rattle.opcode.specs.Members.{member_kinds, member_number}
@@ -7,8 +7,7 @@ use Rattle.opcode.specs.declared.operator.UnOp.{UnOp}
 use Rattle.opcode.specs.declared.operator.UnOp.TheVariants.{Not}
 use Rattle.opcode.specs.declared.operator.BinOp.{BinOp}
 use Rattle.opcode.specs.declared.operator.BinOp.TheVariants.{Add}
-use Rattle.opcode.specs.declared.operator.OpCodeLookup.{OpCodeLookup}
-use Rattle.opcode.specs.declared.operator.OpCodeLookup.TheVariants.{Found, Absent}
+use Rattle.opcode.specs.declared.opcode.OpCode.{OpCode}
 use Rattle.opcode.specs.declared.member.MemberKind.{MemberKind}
 use Rattle.opcode.specs.declared.member.MemberKind.TheVariants.{DoubleColonMeta}
 use Rattle.tables.specs.Forest.{Nodes}
@@ -16,7 +15,8 @@ use Rattle.tables.specs.declared.refusal.RunRule.TheVariants.{Operator}
 use Rattle.pool.specs.Value.{child}
 use Rattle.rules.specs.declared.Flow.TheVariants.{Refused}
 use Rattle.rules.specs.Marker.{Forward, JumpIfTrueOrPop, JumpIfFalseOrPop, Code, Call, ReturnCall}
-use Rattle.emit.specs.Sinks.{Pushes, stopped}
+use Rattle.context.specs.Sinks.{pushed, stopped}
+use Rattle.context.specs.declared.Context.{Context}
 
 -- "Operators 0 to 13 are Add Sub .."; "9 Unary (0 Not, 1 Neg)"; "members 0 to 5 follow `MemberKind`". No accepted table has another number
 unfoldable pub binary_of : ℕ → BinOp
@@ -49,6 +49,6 @@ call_of true = ReturnCall
 call_of false = Call
 
 -- an operator's opcode is pushed; And, Or and Is have none: number 13
-abbrev pub PushesFound : (o w o' w' : List ℕ) → OpCodeLookup → ℕ → Type 0
-PushesFound o w o' w' (Found x) r = Pushes o w o' w' (op_words x)
-PushesFound o w o' w' Absent r = (o' ≡ o) × (w' ≡ stopped (Refused Operator r) w)
+abbrev pub with_operator : Option OpCode → ℕ → Context → Context
+with_operator (Some x) r = pushed (op_words x)
+with_operator None r = stopped (Refused Operator r)

@@ -30,8 +30,8 @@ use Rattle.rules.specs.Marker.{
 }
 use Rattle.rules.specs.Step.{Use, Get, Set, Step, access, refuse}
 use Rattle.rules.specs.Run.{State, labels, emit, bump, finish, sought}
-use Rattle.emit.specs.Rep.{Lent}
-use Rattle.emit.specs.Does.{child, access_noted}
+use Rattle.context.specs.Rep.{Lent}
+use Rattle.context.specs.Does.{child, access_noted}
 use Rattle.plain.specs.Operators.{is_meta}
 
 -- a Call's argument count: n arguments, and the table of a callee that is a method

@@ -4,13 +4,13 @@ ghost use Rattle.tables.specs.Forest.{forest, own_tree};
 ghost use Rattle.pool.specs.Value.{child as words_at, below};
 ghost use Rattle.rules.specs.Step.{width as width_of};
 ghost use Rattle.rules.specs.Arms.{arguments as arguments_of, is_tail};
-ghost use Rattle.emit.specs.Words.{cap};
-ghost use Rattle.emit.specs.Does.{child as child_of};
+ghost use Rattle.context.specs.Words.{cap};
+ghost use Rattle.context.specs.Does.{child as child_of};
 ghost use Rattle.plain.specs.Runs.{argument_count};
 
 use crate::member::is_method;
 use crate::siblings::{nth, width};
-use emit::word::{capped, inc};
+use context::word::capped;
 use tables::ast::{first, kind, next, q};
 use tables::kind;
 
@@ -46,7 +46,7 @@ pub fn argument_count(recs: &[u32], callee: usize, n: usize) -> u32
         return count;
     }
     if is_method(recs, callee) {
-        return inc(count);
+        return count.saturating_add(1);
     }
     count
 }

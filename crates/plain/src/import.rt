@@ -2,34 +2,30 @@
 ghost use Rattle.std.specs.Prelude.{◌≡◌, cond, List, ℕ, eqb};
 ghost use Rattle.tables.specs.Record.{word};
 ghost use Rattle.rules.specs.Arms.{item_steps};
-ghost use Rattle.emit.specs.Does.{nth as nth_of, Arm};
+ghost use Rattle.context.specs.Does.{nth as nth_of, Arm};
 ghost use Rattle.plain.specs.Runs.{simple_store};
 
 use crate::children::{less, name_of};
 use crate::siblings::nth;
-use emit::constant::push_import_from;
-use emit::flow::refuse;
-use emit::frame::Frame;
-use emit::name::store;
-use pool::notes::Notes;
+use context::Context;
+use context::tree::Tree;
 use tables::ast::{detail, first, next, p};
 use tables::detail;
 use tables::refusal::RunRule;
 
 // ImportKind::Simple: the last Ident of the path is stored to, or the alias behind it; an empty path has no last one.
-pub fn simple(recs: &[u32], notes: &Notes, code: &mut [u32], frame: &mut Frame, r: usize)
-    ensures { (consts : List ℕ) → Arm recs.now notes.now code.old consts frame.old
-        code.new consts frame.new r (λ sc w k. simple_store w w.p) }
+pub fn simple(tree: &Tree, cx: &mut Context, r: usize)
+    ensures { Arm tree.now cx.old cx.new r (λ sc w k. simple_store w w.p) }
 {
-    let path = first(recs, r);
-    let n = p(recs, r) as usize;
+    let path = first(tree.records, r);
+    let n = p(tree.records, r) as usize;
     if n == 0 {
-        return refuse(frame, RunRule::Path, r);
+        return cx.refuse(RunRule::Path, r);
     }
-    if detail(recs, r) == detail::SIMPLE {
-        return store(notes, code, frame, nth(recs, path, less(n)));
+    if detail(tree.records, r) == detail::SIMPLE {
+        return cx.store(tree.notes, nth(tree.records, path, less(n)));
     }
-    store(notes, code, frame, nth(recs, path, n))
+    cx.store(tree.notes, nth(tree.records, path, n))
 }
 
 // The Ident that an Item is stored to.
@@ -43,18 +39,10 @@ fn alias(recs: &[u32], item: usize, name: usize) -> usize
 }
 
 // An Item of an Import.
-pub fn import_item(
-    recs: &[u32],
-    notes: &Notes,
-    code: &mut [u32],
-    consts: &mut [u32],
-    frame: &mut Frame,
-    item: usize,
-)
-    ensures { Arm recs.now notes.now code.old consts.old frame.old
-        code.new consts.new frame.new item (λ sc. item_steps) }
+pub fn import_item(tree: &Tree, cx: &mut Context, item: usize)
+    ensures { Arm tree.now cx.old cx.new item (λ sc. item_steps) }
 {
-    let name = first(recs, item);
-    push_import_from(recs, code, consts, frame, name_of(recs, name));
-    store(notes, code, frame, alias(recs, item, name))
+    let name = first(tree.records, item);
+    cx.push_import_from(tree.records, name_of(tree.records, name));
+    cx.store(tree.notes, alias(tree.records, item, name))
 }

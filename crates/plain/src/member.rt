@@ -4,27 +4,24 @@ ghost use Rattle.opcode.specs.Words.{op_words};
 ghost use Rattle.opcode.specs.Members.{get_of, set_of};
 ghost use Rattle.tables.specs.Record.{word, words};
 ghost use Rattle.rules.specs.Arms.{is_method, unlabelled};
-ghost use Rattle.emit.specs.Words.{at, code_in};
-ghost use Rattle.emit.specs.Sinks.{Pushes};
+ghost use Rattle.context.specs.Sinks.{pushed};
 ghost use Rattle.plain.specs.Operators.{member_of, is_meta};
 ghost use Rattle.plain.specs.Leaves.{JumpsSafe};
 
-use emit::code::push_op;
-use emit::frame::{Frame, stack};
-use emit::op::push_jump_pop_if_null;
+use context::Context;
+use context::tree::Tree;
 use opcode::index::LabelId;
-use opcode::member::{MemberKind, MemberLookup, member_kind};
+use opcode::member::MemberKind;
+use opcode::opcode::OpCode;
 use rules::StackCode;
 use tables::ast::{detail, kind};
 use tables::{detail, kind};
 
+#[tactic(auto, using(crate::proofs::OperatorLaws::found_member_lem))]
 fn member(n: u32) -> MemberKind
     ensures { result ≡ member_of n }
 {
-    let MemberLookup::Found(property) = member_kind(n) else {
-        return MemberKind::DoubleColonMeta;
-    };
-    property
+    MemberKind::try_from(n).unwrap_or(MemberKind::DoubleColonMeta)
 }
 
 // The property of a Member.
@@ -73,42 +70,36 @@ pub fn is_meta(property: MemberKind) -> bool
 }
 
 // Whether the Member r takes no label: in code 2, where it is not safe.
-pub fn is_unlabelled(recs: &[u32], frame: &Frame, r: usize) -> bool
-    ensures { result ≡ unlabelled (code_in (at frame.now)) (word recs.now r 1) }
+pub fn is_unlabelled(tree: &Tree, cx: &Context, r: usize) -> bool
+    ensures { result ≡ unlabelled (cx.now.stack) (word tree.now.records.now r 1) }
 {
-    let code = stack(frame);
+    let code = cx.stack;
     match code {
         StackCode::Code1 => false,
-        StackCode::Code2 => detail(recs, r) < detail::SAFE,
+        StackCode::Code2 => detail(tree.records, r) < detail::SAFE,
     }
 }
 
 // if safe.is_some() { push_code(JumpPopIfNull(safe_label)) }
-pub fn push_safe_jump(
-    recs: &[u32],
-    code: &mut [u32],
-    frame: &mut Frame,
-    r: usize,
-    safe_label: LabelId,
-)
-    ensures { JumpsSafe recs.now code.old frame.old code.new frame.new r safe_label.0 }
+pub fn push_safe_jump(tree: &Tree, cx: &mut Context, r: usize, safe_label: LabelId)
+    ensures { JumpsSafe tree.now.records.now cx.old cx.new r safe_label.0 }
 {
-    if detail(recs, r) < detail::SAFE {
+    if detail(tree.records, r) < detail::SAFE {
         return;
     }
-    push_jump_pop_if_null(code, frame, safe_label)
+    cx.push_op(OpCode::JumpPopIfNull(safe_label))
 }
 
 // push_code(property.get_opcode())
-pub fn push_get(code: &mut [u32], frame: &mut Frame, property: MemberKind)
-    ensures { Pushes code.old frame.old code.new frame.new (op_words (get_of property)) }
+pub fn push_get(cx: &mut Context, property: MemberKind)
+    ensures { cx.new ≡ pushed (op_words (get_of property)) cx.old }
 {
-    push_op(code, frame, property.get_opcode())
+    cx.push_op(property.get_opcode())
 }
 
 // push_code(property.set_opcode())
-pub fn push_set(code: &mut [u32], frame: &mut Frame, property: MemberKind)
-    ensures { Pushes code.old frame.old code.new frame.new (op_words (set_of property)) }
+pub fn push_set(cx: &mut Context, property: MemberKind)
+    ensures { cx.new ≡ pushed (op_words (set_of property)) cx.old }
 {
-    push_op(code, frame, property.set_opcode())
+    cx.push_op(property.set_opcode())
 }

@@ -5,56 +5,48 @@ ghost use Rattle.opcode.specs.Operators.{from_bin_op, from_un_op};
 ghost use Rattle.tables.specs.Record.{word};
 ghost use Rattle.tables.specs.Forest.{forest, own_tree};
 ghost use Rattle.rules.specs.Out.{code_number, forward_number};
-ghost use Rattle.emit.specs.Sinks.{Pushes};
-ghost use Rattle.plain.specs.Operators.{binary_of, unary_of, is_short, short_assign, short_jump, call_of, PushesFound};
+ghost use Rattle.context.specs.Sinks.{pushed};
+ghost use Rattle.plain.specs.Operators.{binary_of, unary_of, is_short, short_assign, short_jump, call_of, with_operator};
 
-use emit::code::push_op;
-use emit::flow::refuse;
-use emit::frame::Frame;
-use emit::op::{push_call, push_jump_if_false_or_pop, push_jump_if_true_or_pop, push_return_call};
+use context::Context;
 use opcode::index::LabelId;
-use opcode::operator::{
-    BinOp, BinOpLookup, OpCodeLookup, UnOp, UnOpLookup, bin_op, from_bin_op, from_un_op, un_op,
-};
+use opcode::opcode::OpCode;
+use opcode::operator::{BinOp, UnOp};
 use tables::ast::detail;
 use tables::detail;
 use tables::refusal::RunRule;
 
 // The operator of a Binary or an AssignOp.
+#[tactic(auto, using(crate::proofs::OperatorLaws::found_binary))]
 pub fn binary_operator(recs: &[u32], r: usize) -> BinOp
     ensures { result ≡ binary_of (word recs.now r 1) }
 {
-    let BinOpLookup::Found(operator) = bin_op(detail(recs, r)) else {
-        return BinOp::Add;
-    };
-    operator
+    BinOp::try_from(detail(recs, r)).unwrap_or(BinOp::Add)
 }
 
 // The operator of a Unary.
+#[tactic(auto, using(crate::proofs::OperatorLaws::found_unary))]
 pub fn unary_operator(recs: &[u32], r: usize) -> UnOp
     ensures { result ≡ unary_of (word recs.now r 1) }
 {
-    let UnOpLookup::Found(operator) = un_op(detail(recs, r)) else {
-        return UnOp::Not;
-    };
-    operator
+    UnOp::try_from(detail(recs, r)).unwrap_or(UnOp::Not)
 }
 
 // push_code(OpCode::from(operator))
-pub fn push_unary(code: &mut [u32], frame: &mut Frame, operator: UnOp)
-    ensures { Pushes code.old frame.old code.new frame.new (op_words (from_un_op operator)) }
+pub fn push_unary(cx: &mut Context, operator: UnOp)
+    ensures { cx.new ≡ pushed (op_words (from_un_op operator)) cx.old }
 {
-    push_op(code, frame, from_un_op(operator))
+    cx.push_op(operator.into())
 }
 
 // push_code(OpCode::from(operator)): And, Or and Is have no opcode.
-pub fn push_binary(code: &mut [u32], frame: &mut Frame, operator: BinOp, r: usize)
-    ensures { PushesFound code.old frame.old code.new frame.new (from_bin_op operator) r }
+pub fn push_binary(cx: &mut Context, operator: BinOp, r: usize)
+    ensures { cx.new ≡ with_operator (from_bin_op operator) r cx.old }
 {
-    let OpCodeLookup::Found(op) = from_bin_op(operator) else {
-        return refuse(frame, RunRule::Operator, r);
+    let Ok(op) = OpCode::try_from(operator) else {
+        return cx.refuse(RunRule::Operator, r);
     };
-    push_op(code, frame, op)
+    cx.push_op(op)
 }
 
 fn is_short(operator: BinOp) -> bool
@@ -81,22 +73,21 @@ pub fn is_short_assign(recs: &[u32], operator: BinOp, left: usize) -> bool
 }
 
 // The jump of `or=` over the right side, or of `and=`.
-pub fn push_short_jump(code: &mut [u32], frame: &mut Frame, operator: BinOp, label: LabelId)
-    ensures { Pushes code.old frame.old code.new frame.new
-        (pair_of (forward_number (short_jump operator)) label.0) }
+pub fn push_short_jump(cx: &mut Context, operator: BinOp, label: LabelId)
+    ensures { cx.new ≡ pushed (pair_of (forward_number (short_jump operator)) label.0) cx.old }
 {
     match operator {
-        BinOp::Or => push_jump_if_true_or_pop(code, frame, label),
-        _ => push_jump_if_false_or_pop(code, frame, label),
+        BinOp::Or => cx.push_op(OpCode::JumpIfTrueOrPop(label)),
+        _ => cx.push_op(OpCode::JumpIfFalseOrPop(label)),
     }
 }
 
 // A Call of n arguments, returned or not.
-pub fn push_calling(code: &mut [u32], frame: &mut Frame, tail: bool, n: u32)
-    ensures { Pushes code.old frame.old code.new frame.new (pair_of (code_number (call_of tail)) n) }
+pub fn push_calling(cx: &mut Context, tail: bool, n: u32)
+    ensures { cx.new ≡ pushed (pair_of (code_number (call_of tail)) n) cx.old }
 {
     if tail {
-        return push_return_call(code, frame, n);
+        return cx.push_op(OpCode::ReturnCall(n));
     }
-    push_call(code, frame, n)
+    cx.push_op(OpCode::Call(n))
 }

@@ -2,7 +2,7 @@
 ghost use Rattle.std.specs.Prelude.{◌≡◌, ◌-◌};
 ghost use Rattle.tables.specs.Forest.{forest, own_tree};
 ghost use Rattle.rules.specs.Step.{width as width_of};
-ghost use Rattle.emit.specs.Does.{nth as nth_of};
+ghost use Rattle.context.specs.Does.{nth as nth_of};
 
 use tables::ast::next;
 
@@ -24,13 +24,11 @@ pub fn nth(recs: &[u32], c: usize, n: usize) -> usize
     ensures { result ≡ nth_of recs.now n c }
 {
     let mut at = c;
-    let mut left = n;
-    while 0 < left {
+    for _ in 0..n {
         if at == 0 {
             return 0;
         }
         at = next(recs, at);
-        left -= 1;
     }
     at
 }

@@ -1,15 +1,15 @@
--- Chains in the words of a scope: one item more, and going through an owner's chain. Assumes nothing.
+-- Chains: one item more, and going through an owner's chain. Assumes nothing.
 use mathlib.Core.Path.{◌≡◌, refl, sym, ap, ap₂, subst, ◌∙◌}
 use mathlib.Core.Bool.{Bool, true, false, cond, ◌&&◌}
-use mathlib.Core.List.{List}
-use Prim.Native.Nat.{ℕ, zero, suc, ◌+◌, ◌%◌, ◌≤◌, ◌<◌}
+use Prim.Native.Nat.{ℕ, zero, suc, ◌%◌, ◌≤◌, ◌<◌}
 use native.Mathlib.Omega.{arith}
 use native.Mathlib.Decide.{ℕ_discrete}
-use lib.ListN.{length, get_or, set, length-set}
+use lib.ListN.{get_or, set, length-set, length-replicate, get_or-replicate}
 use lib.Seq.{get_or-set_same, get_or-set_other}
 use lib.Dec.{ltb, eqb}
 use borrow.Author.Tests.{lt-ltb, eq-eqb, ne_eqb, eqb-true, ltb-true}
-use Rattle.pool.specs.Scope.{OWNERS, owner_of, Chain, chained, below, first_of, next_of, last}
+use Rattle.pool.specs.Chain.{OWNERS, no_chains, chained, below, first_of, next_of, last}
+use Rattle.pool.specs.declared.chain.Chain.{Chain}
 use Rattle.pool.specs.ResolveSteps.{of_owner, Chains}
 use Rattle.pool.proofs.Basics.{on_true, on_false}
 
@@ -56,12 +56,6 @@ module _ (b : ℕ → Bool) where
       go false q (yes z) ih = absurd (let y : ◌≡◌ {A = ℕ} 0 1 = cc in omega arith)
       go false q (no z) ih = ih (omega arith)
 
--- a chain whose places lie inside the words, heads and nexts apart
-pub record Placed (c : Chain) (ws : List ℕ) : Type 0 where
-  pub head_inside : (o : ℕ) → o < OWNERS → c.heads + o < length ws
-  pub next_inside : (i : ℕ) → i < c.items → c.nexts + i < length ws
-  pub apart : (o i : ℕ) → o < OWNERS → i < c.items → c.heads + o ≡ c.nexts + i → ⊥
-
 both : (a b : Bool) → a ≡ true → b ≡ true → a && b ≡ true
 both a b e q = rw (e, q)
 
@@ -77,118 +71,126 @@ pub first : (a b : Bool) → a && b ≡ true → a ≡ true
 first true b e = refl
 first false b e = e
 
-module _ (c : Chain) (item : ℕ → Bool) (owner : ℕ → ℕ) where
-  pub chain_start : (ws : List ℕ) → ((o : ℕ) → o < OWNERS → get_or ws (c.heads + o) 0 ≡ 0) → Chains c item owner 0 ws
+module _ {room : ℕ} (item : ℕ → Bool) (owner : ℕ → ℕ) where
+  pub chain_start : (c : Chain room) → c ≡ no_chains room → Chains item owner 0 c
   unfolding last
-  chain_start ws z = record { heads = z; nexts = λ i h. absurd (omega arith) }
+  chain_start c e =
+      subst (Chains item owner 0) (sym e)
+      (record {
+        owners = length-replicate {A = ℕ} OWNERS 0;
+        items = length-replicate {A = ℕ} room 0;
+        heads = λ o p. get_or-replicate OWNERS o 0 0 p;
+        nexts = λ i h. absurd (omega arith);
+      })
 
   -- a number that is no item
-  pub chain_skip : (ws : List ℕ) (n : ℕ) → item n ≡ false → Chains c item owner n ws → Chains c item owner (suc n) ws
-  chain_skip ws n e h =
+  pub chain_skip : (c : Chain room) (n : ℕ) → item n ≡ false → Chains item owner n c → Chains item owner (suc n) c
+  chain_skip c n e h =
       record {
+        owners = h.owners;
+        items = h.items;
         heads = λ o p. h.heads o p ∙ sym (last_off (of_owner item owner o) n (ap (λ (x : Bool). x && eqb (owner n % OWNERS) o) e));
         nexts = λ i p q. go i p q (ℕ_discrete i n);
       }
     where
-      go : (i : ℕ) → i < suc n → item i ≡ true → Dec (i ≡ n) → get_or ws (c.nexts + i) 0 ≡ last (of_owner item owner (owner i % OWNERS)) i
+      go : (i : ℕ) → i < suc n → item i ≡ true → Dec (i ≡ n) → get_or c.nexts i 0 ≡ last (of_owner item owner (owner i % OWNERS)) i
       go i p q (yes z) = absurd (let y : ◌≡◌ {A = ℕ} 0 1 = cc in omega arith)
       go i p q (no z) = h.nexts i (omega arith) q
 
   -- an item becomes the first of its owner's chain
-  module _ (ws : List ℕ) (p : Placed c ws) (n : ℕ) (few : n < c.items) (is : item n ≡ true) (h : Chains c item owner n ws) where
+  module _ (c : Chain room) (n : ℕ) (few : n < room) (is : item n ≡ true) (h : Chains item owner n c) where
     abbrev k : ℕ
     k = owner n % OWNERS
 
     abbrev old : ℕ
-    old = get_or ws (c.heads + k) 0
+    old = get_or c.heads k 0
 
     small : k < OWNERS
     small = omega arith
 
-    abbrev ws' : List ℕ
-    ws' = set (set ws (c.nexts + n) old) (c.heads + k) n
-
-    head_more : (o : ℕ) → o < OWNERS → get_or ws' (c.heads + o) 0 ≡ last (of_owner item owner o) (suc n)
+    head_more : (o : ℕ) → o < OWNERS → get_or (set c.heads k n) o 0 ≡ last (of_owner item owner o) (suc n)
     head_more o q = go (ℕ_discrete o k)
       where
-        go : Dec (o ≡ k) → get_or ws' (c.heads + o) 0 ≡ last (of_owner item owner o) (suc n)
+        go : Dec (o ≡ k) → get_or (set c.heads k n) o 0 ≡ last (of_owner item owner o) (suc n)
         go (yes z) =
-            let l = length-set ws (c.nexts + n) old in
-            ap (λ (x : ℕ). get_or ws' (c.heads + x) 0) z
-            ∙ (get_or-set_same (set ws (c.nexts + n) old) (c.heads + k) n 0 (omega (arith, p.head_inside k small))
+            ap (λ (x : ℕ). get_or (set c.heads k n) x 0) z
+            ∙ (get_or-set_same c.heads k n 0 (omega (arith, h.owners))
             ∙ sym (last_on (of_owner item owner o) n (both (item n) (eqb k o) is (eq-eqb k o (sym z)))))
         go (no z) =
-            get_or-set_other (set ws (c.nexts + n) old) (c.heads + k) (c.heads + o) n 0 (λ e. z (omega arith))
-            ∙ (get_or-set_other ws (c.nexts + n) (c.heads + o) old 0 (λ e. p.apart o n q few e)
-            ∙ (h.heads o q ∙ sym (last_off (of_owner item owner o) n (other (item n) (eqb k o) (ne_eqb k o (λ e. z (sym e)))))))
+            get_or-set_other c.heads k o n 0 z
+            ∙ (h.heads o q ∙ sym (last_off (of_owner item owner o) n (other (item n) (eqb k o) (ne_eqb k o (λ e. z (sym e))))))
 
-    next_more : (i : ℕ) → i < suc n → item i ≡ true → get_or ws' (c.nexts + i) 0 ≡ last (of_owner item owner (owner i % OWNERS)) i
-    next_more i q r = get_or-set_other (set ws (c.nexts + n) old) (c.heads + k) (c.nexts + i) n 0 (λ e. p.apart k i small (omega arith) (sym e)) ∙ go (ℕ_discrete i n)
+    next_more : (i : ℕ) → i < suc n → item i ≡ true → get_or (set c.nexts n old) i 0 ≡ last (of_owner item owner (owner i % OWNERS)) i
+    next_more i q r = go (ℕ_discrete i n)
       where
-        go : Dec (i ≡ n) → get_or (set ws (c.nexts + n) old) (c.nexts + i) 0 ≡ last (of_owner item owner (owner i % OWNERS)) i
-        go (yes z) = rw z (get_or-set_same ws (c.nexts + n) old 0 (p.next_inside n few) ∙ h.heads k small)
-        go (no z) = get_or-set_other ws (c.nexts + n) (c.nexts + i) old 0 (λ e. z (omega arith)) ∙ h.nexts i (omega arith) r
+        go : Dec (i ≡ n) → get_or (set c.nexts n old) i 0 ≡ last (of_owner item owner (owner i % OWNERS)) i
+        go (yes z) = rw z (get_or-set_same c.nexts n old 0 (omega (arith, h.items)) ∙ h.heads k small)
+        go (no z) = get_or-set_other c.nexts n i old 0 z ∙ h.nexts i (omega arith) r
 
-    pub chain_more : Chains c item owner (suc n) (chained c ws (owner n) n)
+    pub chain_more : Chains item owner (suc n) (chained c (owner n) n)
     unfolding chained
-    chain_more = subst (Chains c item owner (suc n)) (sym (on_true _ _ _ (lt-ltb _ _ few))) (record { heads = head_more; nexts = next_more })
+    chain_more =
+        subst (Chains item owner (suc n)) (sym (on_true _ _ _ (lt-ltb _ _ few)))
+        (record {
+          owners = length-set c.heads k n ∙ h.owners;
+          items = length-set c.nexts n old ∙ h.items;
+          heads = head_more;
+          nexts = next_more;
+        })
 
-  -- the same words at the chain's places, the same owners
-  pub chain_words : (ws ws' : List ℕ) (n : ℕ) → n ≤ c.items → ((o : ℕ) → o < OWNERS → get_or ws' (c.heads + o) 0 ≡ get_or ws (c.heads + o) 0)
-      → ((i : ℕ) → i < c.items → get_or ws' (c.nexts + i) 0 ≡ get_or ws (c.nexts + i) 0) → Chains c item owner n ws → Chains c item owner n ws'
-  chain_words ws ws' n few e q h = record { heads = λ o p. e o p ∙ h.heads o p; nexts = λ i p r. q i (omega arith) ∙ h.nexts i p r }
-
-  pub chain_owners : (owner' : ℕ → ℕ) (ws : List ℕ) (n : ℕ) → ((i : ℕ) → i < n → owner i ≡ owner' i) → Chains c item owner n ws → Chains c item owner' n ws
-  chain_owners owner' ws n e h =
+  pub chain_owners : (owner' : ℕ → ℕ) (c : Chain room) (n : ℕ) → ((i : ℕ) → i < n → owner i ≡ owner' i) → Chains item owner n c → Chains item owner' n c
+  chain_owners owner' c n e h =
       record {
+        owners = h.owners;
+        items = h.items;
         heads = λ o p. h.heads o p ∙ last_same _ _ n (λ i q. ap (λ (x : ℕ). item i && eqb (x % OWNERS) o) (e i q));
         nexts = λ i p r. h.nexts i p r ∙ (last_same _ _ i (λ j q. ap (λ (x : ℕ). item j && eqb (x % OWNERS) (owner i % OWNERS)) (e j (omega arith)))
             ∙ ap (λ (x : ℕ). last (of_owner item owner' (x % OWNERS)) i) (e i p));
       }
 
-  -- going through the current owner's chain
-  module _ (ws : List ℕ) (n : ℕ) (few : n ≤ c.items) (h : Chains c item owner n ws) where
+  -- going through an owner's chain
+  module _ (c : Chain room) (at : ℕ) (n : ℕ) (few : n ≤ room) (h : Chains item owner n c) where
     abbrev own : ℕ → Bool
-    own = of_owner item owner (owner_of ws)
+    own = of_owner item owner (at % OWNERS)
 
     -- an item of the owner, or the end
     abbrev pub Halt : ℕ → Type 0
     Halt x = 0 < x → (x < n) × (own x ≡ true)
 
-    first_is : first_of c ws ≡ last own n
+    first_is : first_of c at ≡ last own n
     unfolding first_of
-    first_is = h.heads (owner_of ws) (omega arith)
+    first_is = h.heads (at % OWNERS) (omega arith)
 
-    next_is : (x : ℕ) → 0 < x → Halt x → next_of c ws x ≡ last own x
+    next_is : (x : ℕ) → 0 < x → Halt x → next_of c x ≡ last own x
     unfolding next_of
     next_is x p s =
-        let z : owner x % OWNERS ≡ owner_of ws = eqb-true _ _ (second (item x) _ (s p).1) in
-        let e : get_or ws (c.nexts + x) 0 ≡ last own x = h.nexts x (s p).0 (first (item x) _ (s p).1) ∙ ap (λ (o : ℕ). last (of_owner item owner o) x) z in
-        on_true _ _ _ (lt-ltb x c.items (omega (arith, (s p).0))) ∙ (ap (λ (l : ℕ). below l x) e ∙ on_true _ _ _ (lt-ltb (last own x) x (go (ℕ_discrete (last own x) 0))))
+        let z : owner x % OWNERS ≡ at % OWNERS = eqb-true _ _ (second (item x) _ (s p).1) in
+        let e : get_or c.nexts x 0 ≡ last own x = h.nexts x (s p).0 (first (item x) _ (s p).1) ∙ ap (λ (o : ℕ). last (of_owner item owner o) x) z in
+        on_true _ _ _ (lt-ltb x room (omega (arith, (s p).0))) ∙ (ap (λ (l : ℕ). below l x) e ∙ on_true _ _ _ (lt-ltb (last own x) x (go (ℕ_discrete (last own x) 0))))
       where
         go : Dec (last own x ≡ 0) → last own x < x
         go (yes e) = omega arith
         go (no e) = last_less own x (omega arith)
 
-    pub halt_first : (x : ℕ) → x ≡ first_of c ws → Halt x
+    pub halt_first : (x : ℕ) → x ≡ first_of c at → Halt x
     halt_first x e = subst Halt (sym (e ∙ first_is)) (λ p. (last_less own n p, last_hit own n p))
 
-    pub halt_next : (x y : ℕ) → 0 < x → Halt x → y ≡ next_of c ws x → Halt y
+    pub halt_next : (x y : ℕ) → 0 < x → Halt x → y ≡ next_of c x → Halt y
     halt_next x y p s e = subst Halt (sym (e ∙ next_is x p s)) (λ q. (omega (arith, last_less own x q, (s p).0), last_hit own x q))
 
     -- no item is above the first, none between an item and its next
-    pub none_above : (x : ℕ) → x ≡ first_of c ws → (i : ℕ) → x < i → i < n → own i ≡ true → ⊥
+    pub none_above : (x : ℕ) → x ≡ first_of c at → (i : ℕ) → x < i → i < n → own i ≡ true → ⊥
     none_above x e i p q r = omega (arith, e ∙ first_is, last_most own n i q r)
 
-    pub none_between : (x y : ℕ) → 0 < x → Halt x → y ≡ next_of c ws x → (i : ℕ) → y < i → i < x → own i ≡ true → ⊥
+    pub none_between : (x y : ℕ) → 0 < x → Halt x → y ≡ next_of c x → (i : ℕ) → y < i → i < x → own i ≡ true → ⊥
     none_between x y p s e i a b r = omega (arith, e ∙ next_is x p s, last_most own x i b r)
 
 -- a chain goes down
-pub next_less : (c : Chain) (ws : List ℕ) (x y : ℕ) → y ≡ next_of c ws x → (x ≡ 0 → ⊥) → y < x
+pub next_less : {room : ℕ} (c : Chain room) (x y : ℕ) → y ≡ next_of c x → (x ≡ 0 → ⊥) → y < x
 unfolding next_of
-next_less c ws x y e d = go (ltb x c.items) (ltb (get_or ws (c.nexts + x) 0) x) refl e
+next_less {room} c x y e d = go (ltb x room) (ltb (get_or c.nexts x 0) x) refl e
   where
-    go : (a b : Bool) → ltb (get_or ws (c.nexts + x) 0) x ≡ b → y ≡ cond a (cond b (get_or ws (c.nexts + x) 0) 0) 0 → y < x
-    go true true q r = omega (arith, ltb-true (get_or ws (c.nexts + x) 0) x q)
+    go : (a b : Bool) → ltb (get_or c.nexts x 0) x ≡ b → y ≡ cond a (cond b (get_or c.nexts x 0) 0) 0 → y < x
+    go true true q r = omega (arith, ltb-true (get_or c.nexts x 0) x q)
     go true false q r = omega arith
     go false b q r = omega arith

@@ -8,21 +8,19 @@ use native.Mathlib.Decide.{ℕ_discrete}
 use lib.ListN.{length, get_or, length-append}
 use lib.Dec.{eqb}
 use borrow.Author.Tests.{eq-eqb, eqb-true}
-use Rattle.pool.specs.Value.{Value, plain, effect, Null, Const, same, same_numbers, same_bool, find, seen, intern, start}
-use Rattle.pool.specs.Consts.{made, added, index_of, count_of, most, interned}
+use Rattle.std.proofs.lemmas.Bool.{true≢false}
+use Rattle.pool.specs.Value.{Value, plain, effect, Null, Const, same, same_numbers, same_bool, find, seen, intern, start, found}
+use Rattle.pool.specs.Consts.{made, added, most, interned}
 use Rattle.pool.specs.declared.consts.Added.{Added}
-use Rattle.pool.specs.declared.consts.Added.TheVariants.{At, Full}
-
-clash : true ≡ false → ⊥
-clash e = let z : ◌≡◌ {A = ℕ} 0 1 = cc in omega arith
+use Rattle.std.specs.Prelude.{Option, Some, None, unwrap_or, is_some}
 
 or_false : (a b : Bool) → a || b ≡ false → (a ≡ false) × (b ≡ false)
-or_false true b e = absurd (clash e)
+or_false true b e = absurd (true≢false e)
 or_false false b e = (refl, e)
 
 and_both : (a b : Bool) → a && b ≡ true → (a ≡ true) × (b ≡ true)
 and_both true b e = (refl, e)
-and_both false b e = absurd (clash (sym e))
+and_both false b e = absurd (true≢false (sym e))
 
 -- ---- `same` is equality
 
@@ -43,14 +41,14 @@ same_self (effect n ps b) = ap₂ ◌&&◌ (eqb_self n) (ap₂ ◌&&◌ (list_se
 
 list_eq : (xs ys : List ℕ) → same_numbers xs ys ≡ true → xs ≡ ys
 list_eq [] [] e = refl
-list_eq [] (y ∷ ys) e = absurd (clash (sym e))
-list_eq (x ∷ xs) [] e = absurd (clash (sym e))
+list_eq [] (y ∷ ys) e = absurd (true≢false (sym e))
+list_eq (x ∷ xs) [] e = absurd (true≢false (sym e))
 list_eq (x ∷ xs) (y ∷ ys) e = let z = and_both (eqb x y) (same_numbers xs ys) e in ap₂ ◌∷◌ (eqb-true x y z.0) (list_eq xs ys z.1)
 
 bool_eq : (a b : Bool) → same_bool a b ≡ true → a ≡ b
 bool_eq true true e = refl
-bool_eq true false e = absurd (clash (sym e))
-bool_eq false true e = absurd (clash (sym e))
+bool_eq true false e = absurd (true≢false (sym e))
+bool_eq false true e = absurd (true≢false (sym e))
 bool_eq false false e = refl
 
 pub same_eq : (v w : Value) → same v w ≡ true → v ≡ w
@@ -58,8 +56,8 @@ same_eq (plain k p q) (plain k' p' q') e =
     let z = and_both (eqb k k') _ e in
     let y = and_both (eqb p p') (eqb q q') z.1 in
     ap₂ (λ a b. plain a b q) (eqb-true k k' z.0) (eqb-true p p' y.0) ∙ ap (plain k' p') (eqb-true q q' y.1)
-same_eq (plain k p q) (effect n ps b) e = absurd (clash (sym e))
-same_eq (effect n ps b) (plain k p q) e = absurd (clash (sym e))
+same_eq (plain k p q) (effect n ps b) e = absurd (true≢false (sym e))
+same_eq (effect n ps b) (plain k p q) e = absurd (true≢false (sym e))
 same_eq (effect n ps b) (effect n' ps' b') e =
     let z = and_both (eqb n n') _ e in
     let y = and_both (same_numbers ps ps') (same_bool b b') z.1 in
@@ -74,7 +72,7 @@ find_unseen (c ∷ cs) v e = let z = or_false (same c.value v) (seen cs v) e in 
 
 pub find_seen : (cs : List Const) (v : Value) → seen cs v ≡ true → find cs v < length cs
 unfolding find seen
-find_seen [] v e = absurd (clash (sym e))
+find_seen [] v e = absurd (true≢false (sym e))
 find_seen (c ∷ cs) v e = go (same c.value v) e (λ q. find_seen cs v q)
   where
     go : (b : Bool) → b || seen cs v ≡ true → (seen cs v ≡ true → find cs v < length cs) → cond b 0 (suc (find cs v)) < suc (length cs)
@@ -88,17 +86,10 @@ seen_inside cs v h = go (seen cs v) refl
     go true e = refl
     go false e = absurd (omega (arith, find_unseen cs v e))
 
-pub seen_outside : (cs : List Const) (v : Value) → length cs ≤ find cs v → seen cs v ≡ false
-seen_outside cs v h = go (seen cs v) refl
-  where
-    go : (b : Bool) → seen cs v ≡ b → b ≡ false
-    go true e = absurd (omega (arith, find_seen cs v e))
-    go false e = refl
-
 -- what is found is the value itself
 pub find_value : (cs : List Const) (d : Const) (v : Value) → seen cs v ≡ true → (get_or cs (find cs v) d).value ≡ v
 unfolding find seen
-find_value [] d v e = absurd (clash (sym e))
+find_value [] d v e = absurd (true≢false (sym e))
 find_value (c ∷ cs) d v e = go (same c.value v) refl e (λ q. find_value cs d v q)
   where
     go : (b : Bool) → same c.value v ≡ b → b || seen cs v ≡ true → (seen cs v ≡ true → (get_or cs (find cs v) d).value ≡ v)
@@ -126,7 +117,7 @@ intern_length cs c = go (seen cs c.value)
 
 find_append : (cs ds : List Const) (v : Value) → seen cs v ≡ true → find (cs ++ ds) v ≡ find cs v
 unfolding find seen
-find_append [] ds v h = absurd (clash (sym h))
+find_append [] ds v h = absurd (true≢false (sym h))
 find_append (c ∷ cs) ds v h = go (same c.value v) h (λ h. find_append cs ds v h)
   where
     go : (b : Bool) → b || seen cs v ≡ true → (seen cs v ≡ true → find (cs ++ ds) v ≡ find cs v) → cond b 0 (suc (find (cs ++ ds) v)) ≡ cond b 0 (suc (find cs v))
@@ -135,7 +126,7 @@ find_append (c ∷ cs) ds v h = go (same c.value v) h (λ h. find_append cs ds v
 
 seen_append : (cs ds : List Const) (v : Value) → seen cs v ≡ true → seen (cs ++ ds) v ≡ true
 unfolding seen
-seen_append [] ds v h = absurd (clash (sym h))
+seen_append [] ds v h = absurd (true≢false (sym h))
 seen_append (c ∷ cs) ds v h = go (same c.value v) h (λ h. seen_append cs ds v h)
   where
     go : (b : Bool) → b || seen cs v ≡ true → (seen cs v ≡ true → seen (cs ++ ds) v ≡ true) → b || seen (cs ++ ds) v ≡ true
@@ -162,59 +153,49 @@ seen_intern cs c = seen_inside (intern cs c) c.value (go (seen cs c.value) refl)
     go true e = omega (arith, find_intern cs c, find_seen cs c.value e, (intern_length cs c).0)
     go false e = omega (arith, find_intern cs c, find_unseen cs c.value e, ap length (intern_new cs c e), length-append cs (c ∷ []))
 
--- ---- the answer of adding
+-- ---- the answer of adding, by what the search found among n entries
 
--- written or not, the answer has the same index and count
-abbrev answer : Bool → ℕ → ℕ → Added
-answer b i m = cond b (At i m) (Full i m)
+some_none : {A : Type 0} {x : A} → ◌≡◌ {A = Option A} (Some x) None → ⊥
+some_none e = true≢false (ap is_some e)
 
-abbrev tally : List Const → Const → ℕ
-tally cs c = min (length (intern cs c)) most
-
-pub added_index : (cs : List Const) (fits : Bool) (c : Const) → index_of (added cs fits c) ≡ find cs c.value
-unfolding added
-added_index cs fits c = go (seen cs c.value || fits)
+pub found_seen : (cs : List Const) (v : Value) (i : ℕ) → Some i ≡ found cs v → (seen cs v ≡ true) × (i ≡ find cs v)
+found_seen cs v i e = go (seen cs v) refl e
   where
-    go : (b : Bool) → index_of (answer b (find cs c.value) (tally cs c)) ≡ find cs c.value
-    go true = refl
-    go false = refl
+    go : (b : Bool) → seen cs v ≡ b → Some i ≡ cond b (Some (find cs v)) None → (seen cs v ≡ true) × (i ≡ find cs v)
+    go true s e = (s, ap (λ (o : Option ℕ). unwrap_or o 0) e)
+    go false s e = absurd (some_none e)
 
-pub added_count : (cs : List Const) (fits : Bool) (c : Const) → count_of (added cs fits c) ≡ min (length (intern cs c)) most
-unfolding added
-added_count cs fits c = go (seen cs c.value || fits)
+pub found_unseen : (cs : List Const) (v : Value) → None ≡ found cs v → seen cs v ≡ false
+found_unseen cs v e = go (seen cs v) refl e
   where
-    go : (b : Bool) → count_of (answer b (find cs c.value) (tally cs c)) ≡ tally cs c
-    go true = refl
-    go false = refl
+    go : (b : Bool) → seen cs v ≡ b → None ≡ cond b (Some (find cs v)) None → seen cs v ≡ false
+    go true s e = absurd (some_none (sym e))
+    go false s e = s
 
--- by what the search answered: found at i, or not among the n entries
-pub added_old : (cs : List Const) (fits : Bool) (c : Const) (n i : ℕ) → length cs ≡ n → n ≤ most → i ≡ find cs c.value → i < n
-    → At i n ≡ added cs fits c
-unfolding added
-added_old cs fits c n i e m q h =
-    let s : seen cs c.value ≡ true = seen_inside cs c.value (omega arith) in
-    let z : length (intern cs c) ≡ length cs = ap length (intern_old cs c s) in
-    let l : n ≡ tally cs c = omega arith in
-    ap₂ At q l ∙ sym (ap (λ b. answer (b || fits) (find cs c.value) (tally cs c)) s)
+-- an index for one that is not there: the end of the table
+pub found_or : (cs : List Const) (v : Value) → unwrap_or (found cs v) (length cs) ≡ find cs v
+found_or cs v = go (seen cs v) refl
+  where
+    go : (b : Bool) → seen cs v ≡ b → unwrap_or (cond b (Some (find cs v)) None) (length cs) ≡ find cs v
+    go true s = refl
+    go false s = sym (find_unseen cs v s)
 
-module _ (cs : List Const) (fits : Bool) (c : Const) (n i m : ℕ) (e : length cs ≡ n) (q : i ≡ find cs c.value) (h : n ≤ i) (em : m ≡ min (n + 1) most) where
-  unseen : seen cs c.value ≡ false
-  unseen = seen_outside cs c.value (omega arith)
+pub added_old : (cs : List Const) (fits : Bool) (c : Const) (n i : ℕ) → length cs ≡ n → n ≤ most → Some i ≡ found cs c.value
+    → ◌≡◌ {A = Added} (record { index = i; count = n; kept = true }) (added cs fits c)
+added_old cs fits c n i e m q =
+    let s = found_seen cs c.value i q in
+    let z : length (intern cs c) ≡ length cs = ap length (intern_old cs c s.0) in
+    let l : n ≡ min (length (intern cs c)) most = omega arith in
+    rw (s.1, l, s.0) refl
 
-  counted : m ≡ tally cs c
-  counted = let z : length (intern cs c) ≡ n + 1 = ap length (intern_new cs c unseen) ∙ length-append cs (c ∷ []) ∙ omega arith in em ∙ ap (λ k. min k most) (sym z)
-
-  new_answer : (b : Bool) → fits ≡ b → answer b n m ≡ added cs fits c
-  unfolding added
-  new_answer b f =
-      ap₂ (answer b) (sym e ∙ sym (find_unseen cs c.value unseen)) counted
-      ∙ sym (ap₂ (λ s t. answer (s || t) (find cs c.value) (tally cs c)) unseen f)
-
-  pub added_new : fits ≡ true → At n m ≡ added cs fits c
-  added_new f = new_answer true f
-
-  pub added_full : fits ≡ false → Full n m ≡ added cs fits c
-  added_full f = new_answer false f
+pub added_new : (cs : List Const) (fits : Bool) (c : Const) (n m : ℕ) → length cs ≡ n → None ≡ found cs c.value → m ≡ min (n + 1) most
+    → ◌≡◌ {A = Added} (record { index = n; count = m; kept = fits }) (added cs fits c)
+added_new cs fits c n m e q em =
+    let s = found_unseen cs c.value q in
+    let z : length (intern cs c) ≡ n + 1 = ap length (intern_new cs c s) ∙ length-append cs (c ∷ []) ∙ omega arith in
+    let l : m ≡ min (length (intern cs c)) most = omega arith in
+    let i : n ≡ find cs c.value = sym e ∙ sym (find_unseen cs c.value s) in
+    rw (i, l, s) refl
 
 -- ---- a table made by adding one constant after the other
 

@@ -1,6 +1,6 @@
 -- Effects through their records: what the links lead to, in the terms of the tree. Assumes nothing.
 use mathlib.Core.Path.{◌≡◌, refl, sym, ap, ap₂, subst, ◌∙◌}
-use mathlib.Core.Bool.{Bool, true, false, cond, ◌&&◌}
+use mathlib.Core.Bool.{beq, Bool, true, false, cond, ◌&&◌}
 use mathlib.Core.List.{List, [], ◌∷◌}
 use mathlib.Core.Logic.{inl, inr}
 use Prim.Native.Nat.{ℕ, zero, suc, ◌-◌, ◌<◌}
@@ -21,9 +21,11 @@ and_true : (b : Bool) → b && true ≡ b
 and_true true = refl
 and_true false = refl
 
-pub same_true : (a b : Bool) → a ≡ true → b ≡ same_bool a b
-same_true a true e = ap (λ x. same_bool x true) (sym e)
-same_true a false e = ap (λ x. same_bool x false) (sym e)
+same_beq : (a b : Bool) → same_bool a b ≡ beq a b
+same_beq true true = refl
+same_beq true false = refl
+same_beq false true = refl
+same_beq false false = refl
 
 module _ (recs : List ℕ) where
   -- the first of the siblings at a link
@@ -39,10 +41,7 @@ module _ (recs : List ℕ) where
   words_second zero = ap (λ f. child (own_tree f) 1) (forest_absent recs) ∙ sym (words_none (next recs 0) (sym (next_zero recs 0 refl)))
   words_second (suc r) = ap (λ f. child (own_tree f) 1) (forest_record recs r)
 
-  -- the name of an Effect, and of a Handler without and with its Ident
-  pub name_effect : (r : ℕ) → word recs r 0 ≡ 6 → word recs r 2 ≡ name_at recs r
-  name_effect r e = sym (ap (λ b. cond b (word recs r 2) (child (own_tree (children recs r)) 0).q) (eq-eqb _ _ e))
-
+  -- the name of a Handler without and with its Ident
   name_other : (r : ℕ) → (word recs r 0 ≡ 6 → ⊥) → name_at recs r ≡ (child (own_tree (children recs r)) 0).q
   name_other r d = ap (λ b. cond b (word recs r 2) (child (own_tree (children recs r)) 0).q) (ne_eqb _ _ d)
 
@@ -151,15 +150,15 @@ module _ (recs : List ℕ) where
     pub other_name : (na ≡ nb → ⊥) → false ≡ same (effect_at recs a) (effect_at recs b)
     other_name ne = sym (by_parts ∙ ap (λ t. t && (same_numbers xs ys && same_bool (is_variadic recs c) (is_variadic recs d))) (ne_eqb na nb ne))
 
-    module _ (e : na ≡ nb) (f v w : Bool) (q : f ≡ same_bool v w) (ev : v ≡ is_variadic recs c) (ew : w ≡ is_variadic recs d) where
-      same_name : same (effect_at recs a) (effect_at recs b) ≡ same_numbers xs ys && f
+    module _ (e : na ≡ nb) (v w : Bool) (ev : v ≡ is_variadic recs c) (ew : w ≡ is_variadic recs d) where
+      same_name : same (effect_at recs a) (effect_at recs b) ≡ same_numbers xs ys && beq v w
       same_name =
           by_parts ∙ ap (λ t. t && (same_numbers xs ys && same_bool (is_variadic recs c) (is_variadic recs d))) (eq-eqb na nb e)
-          ∙ ap (λ t. same_numbers xs ys && t) (ap₂ same_bool (sym ev) (sym ew) ∙ sym q)
+          ∙ ap (λ t. same_numbers xs ys && t) (ap₂ same_bool (sym ev) (sym ew) ∙ same_beq v w)
 
-      pub other_variadic : f ≡ false → false ≡ same (effect_at recs a) (effect_at recs b)
+      pub other_variadic : beq v w ≡ false → false ≡ same (effect_at recs a) (effect_at recs b)
       other_variadic z = sym (same_name ∙ ap (λ t. same_numbers xs ys && t) z ∙ and_false (same_numbers xs ys))
 
-      pub same_parameters : f ≡ true → (s : Bool) (us vs : List ℕ) → s ≡ same_numbers us vs → us ≡ xs → vs ≡ ys → s ≡ same (effect_at recs a) (effect_at recs b)
+      pub same_parameters : beq v w ≡ true → (s : Bool) (us vs : List ℕ) → s ≡ same_numbers us vs → us ≡ xs → vs ≡ ys → s ≡ same (effect_at recs a) (effect_at recs b)
       same_parameters z s us vs es eu ev' =
           es ∙ ap₂ same_numbers eu ev' ∙ sym (same_name ∙ ap (λ t. same_numbers xs ys && t) z ∙ and_true (same_numbers xs ys))

@@ -43,11 +43,11 @@ module _ (t : Semantic) (entries spans : ℕ) where
       few_entries h = rw (le-leb _ _ a, le-leb _ _ b, lt-leb _ _ h)
 
       module _ (c : length t.members * 3 ≤ entries) where
-        pub few_spans : spans < function_count t * 4 → false ≡ fits t entries spans
+        pub few_spans : spans < function_count t → false ≡ fits t entries spans
         unfolding fits
         few_spans h = rw (le-leb _ _ a, le-leb _ _ b, le-leb _ _ c, lt-leb _ _ h)
 
-        module _ (d : function_count t * 4 ≤ spans) (n sum : ℕ) (e : n ≡ function_count t) (s : sum ≡ min (start_of_share t n) (2 ^ 63)) where
+        module _ (d : function_count t ≤ spans) (n sum : ℕ) (e : n ≡ function_count t) (s : sum ≡ min (start_of_share t n) (2 ^ 63)) where
           pub uncounted : (sum ≡ length t.members → ⊥) → false ≡ fits t entries spans
           unfolding fits
           uncounted h =
@@ -66,7 +66,7 @@ module _ (t : Semantic) (entries spans : ℕ) where
       let p1 = both (leb (function_count t) 256) _ e in
       let p2 = both (leb (length t.members) 1024) _ p1.1 in
       let p3 = both (leb (length t.members * 3) entries) _ p2.1 in
-      let p4 = both (leb (function_count t * 4) spans) _ p3.1 in
+      let p4 = both (leb (function_count t) spans) _ p3.1 in
       let p5 = both (eqb (start_of_share t (function_count t)) (length t.members)) _ p4.1 in
       record {
         functions_limit = leb-true _ _ p1.0;
@@ -91,7 +91,7 @@ module _ (t : Semantic) (entries spans : ℕ) where
 
 -- tables that keep the rows: all fits where there is room for row 1's limits, and the notes have what they rest on
 module _ (strings bytes symbols references functions members records : List ℕ) (k : Kept strings bytes symbols references functions members records) where
-  pub kept_fits : (entries spans : ℕ) → 3072 ≤ entries → 1024 ≤ spans → fits (semantic symbols references functions members) entries spans ≡ true
+  pub kept_fits : (entries spans : ℕ) → 3072 ≤ entries → 256 ≤ spans → fits (semantic symbols references functions members) entries spans ≡ true
   kept_fits entries spans h g =
       let f = k.fits in
       let r = k.entries_right in

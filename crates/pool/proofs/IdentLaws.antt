@@ -15,7 +15,9 @@ use Rattle.tables.specs.Semantic.{symbol_of}
 use Rattle.tables.specs.declared.refusal.RunRule.TheVariants.{Reference}
 use Rattle.tables.proofs.SemanticLaws.{split}
 use Rattle.pool.specs.Names.{Semantic, semantic, Names, names, Access, missing, load, store, load_symbol, store_symbol}
-use Rattle.pool.specs.Scope.{OWNERS, owner_of, idents, first_of, next_of}
+use Rattle.pool.specs.Chain.{OWNERS, first_of, next_of}
+use Rattle.pool.specs.Scope.{owner_of}
+use Rattle.pool.specs.declared.scope.Scope.{Scope}
 use Rattle.pool.specs.Lookups.{load_in, store_in}
 use Rattle.pool.specs.NameSteps.{owner_names, Shown}
 use Rattle.pool.specs.Notes.{RECORDS, LOADS, STORES, load_note, store_note, note_ident}
@@ -24,7 +26,7 @@ use Rattle.pool.proofs.Basics.{on_true}
 use Rattle.pool.proofs.ChainLaws.{first, halt_first, halt_next, none_above, none_between, next_less}
 
 -- a load or a store by the stamped names is that of the owner's function
-module _ (t : Semantic) (sc : List ℕ) (h : Shown t sc) (some : 0 < owner_of sc) where
+module _ (t : Semantic) (sc : Scope) (h : Shown t sc) (some : 0 < owner_of sc) where
   own_names : owner_names t (owner_of sc) ≡ names t (owner_of sc - 1)
   own_names = go (owner_of sc) some
     where
@@ -105,7 +107,7 @@ module _ (t : Semantic) (recs owners : List ℕ) where
       go q (inl d) (no z) = note_elsewhere ns x a b q (small q d) z ∙ h.noted q d
       go q (inr d) (no z) = absurd (z d)
 
-module _ (recs owners sc : List ℕ) where
+module _ (recs owners : List ℕ) (sc : Scope) where
   abbrev item : ℕ → Bool
   item r = is_ident (words recs r)
 
@@ -142,32 +144,32 @@ module _ (recs owners sc : List ℕ) where
   behind_small few x q (inl i) = omega (arith, i.inside)
   behind_small few x q (inr l) = omega (arith, l.inside)
 
-module _ (recs symbols references sc ns : List ℕ) where
+module _ (recs symbols references : List ℕ) (sc : Scope) (ns : List ℕ) where
   pub record Noting (x : ℕ) (ns' : List ℕ) : Type 0 where
     pub front : (j : ℕ) → j < LOADS → get_or ns' j 0 ≡ get_or ns j 0
     pub noted : (functions members owners : List ℕ)
         → (let t = semantic symbols references functions members in
-        size recs ≤ 4096 → IdentChains recs owners (size recs) sc → Shown t sc → 0 < owner_of sc → NotedBelow t recs owners (owner_of sc) ns
+        size recs ≤ 4096 → IdentChains recs owners (size recs) sc.idents → Shown t sc → 0 < owner_of sc → NotedBelow t recs owners (owner_of sc) ns
         → Halting recs owners sc x × NotedIn t recs owners (Behind recs owners sc x) ns')
 
-  pub noting_first : (x : ℕ) → x ≡ first_of idents sc → Noting x ns
+  pub noting_first : (x : ℕ) → x ≡ first_of sc.idents sc.owner → Noting x ns
   noting_first x e =
       record {
         front = λ j p. refl;
         noted = λ functions members owners few chains shown some h. (
-          halt_first idents (item recs owners sc) (owner recs owners sc) sc (size recs) few chains x e,
+          halt_first (item recs owners sc) (owner recs owners sc) sc.idents sc.owner (size recs) few chains x e,
           noted_same (semantic symbols references functions members) recs owners _ (Behind recs owners sc x) ns (λ q b. go owners few chains q b) (λ q i. inl i) h,
         );
       }
     where
-      go : (owners : List ℕ) → size recs ≤ 4096 → IdentChains recs owners (size recs) sc → (q : ℕ) → Behind recs owners sc x q → IdentBelow recs owners (owner_of sc) q
+      go : (owners : List ℕ) → size recs ≤ 4096 → IdentChains recs owners (size recs) sc.idents → (q : ℕ) → Behind recs owners sc x q → IdentBelow recs owners (owner_of sc) q
       go owners few chains q (inl i) = i
       go owners few chains q (inr l) =
-          absurd (none_above idents (item recs owners sc) (owner recs owners sc) sc (size recs) few chains x e q l.later l.inside l.own)
+          absurd (none_above (item recs owners sc) (owner recs owners sc) sc.idents sc.owner (size recs) few chains x e q l.later l.inside l.own)
 
   -- the Ident at x is noted, and y comes next
   module _ (x y : ℕ) (ns₁ ns₂ : List ℕ) (p : ℕ) (a b : Access) (some : 0 < x) (h : Noting x ns₁) (ep : p ≡ word recs x 2) (ea : a ≡ load_in references sc p)
-      (eb : b ≡ store_in symbols references sc p) (en : ns₂ ≡ note_ident ns₁ x (load_note a) (store_note b)) (ey : y ≡ next_of idents sc x) where
+      (eb : b ≡ store_in symbols references sc p) (en : ns₂ ≡ note_ident ns₁ x (load_note a) (store_note b)) (ey : y ≡ next_of sc.idents x) where
     pub noting_next : Noting y ns₂
     noting_next =
         record {
@@ -177,7 +179,7 @@ module _ (recs symbols references sc ns : List ℕ) where
       where
         go : (functions members owners : List ℕ)
             → (let t = semantic symbols references functions members in
-            size recs ≤ 4096 → IdentChains recs owners (size recs) sc → Shown t sc → 0 < owner_of sc
+            size recs ≤ 4096 → IdentChains recs owners (size recs) sc.idents → Shown t sc → 0 < owner_of sc
             → Halting recs owners sc x × NotedIn t recs owners (Behind recs owners sc x) ns₁ → Halting recs owners sc y × NotedIn t recs owners (Behind recs owners sc y) ns₂)
         go functions members owners few chains shown pos (s, m) =
             let t = semantic symbols references functions members in
@@ -186,16 +188,16 @@ module _ (recs symbols references sc ns : List ℕ) where
             ap load_note (ea ∙ (load_shown t sc shown pos p ∙ ap₂ (λ (i j : ℕ). load t (i - 1) j) (sym o) ep)) in
             let lb : store_note b ≡ store_note (store t (get_or owners x 0 % OWNERS - 1) (word recs x 2)) =
             ap store_note (eb ∙ (store_shown t sc shown pos p ∙ ap₂ (λ (i j : ℕ). store t (i - 1) j) (sym o) ep)) in (
-              halt_next idents (item recs owners sc) (owner recs owners sc) sc (size recs) few chains x y some s ey,
+              halt_next (item recs owners sc) (owner recs owners sc) sc.idents sc.owner (size recs) few chains x y some s ey,
               noted_same t recs owners (λ q. (Behind recs owners sc x q) ⊎ (q ≡ x)) (Behind recs owners sc y) ns₂ (λ q d. back few chains s q d) (λ q d. on s q d)
                   (noted_more t recs owners (Behind recs owners sc x) ns₁ ns₂ x (load_note a) (store_note b) (omega (arith, (s some).0)) (behind_small recs owners sc few x) en
                   (ap₂ (λ (u v : ℕ). (u, v)) la lb) m),
             )
           where
             less : y < x
-            less = next_less idents sc x y ey (λ z. omega arith)
+            less = next_less sc.idents x y ey (λ z. omega arith)
 
-            back : size recs ≤ 4096 → IdentChains recs owners (size recs) sc → Halting recs owners sc x → (q : ℕ) → Behind recs owners sc y q
+            back : size recs ≤ 4096 → IdentChains recs owners (size recs) sc.idents → Halting recs owners sc x → (q : ℕ) → Behind recs owners sc y q
                 → (Behind recs owners sc x q) ⊎ (q ≡ x)
             back few chains s q (inl i) = inl (inl i)
             back few chains s q (inr l) = at (ℕ_discrete q x) (split (suc x) q)
@@ -204,7 +206,7 @@ module _ (recs symbols references sc ns : List ℕ) where
                 at (yes z) w = inr z
                 at (no z) (inl w) = inl (inr (record { inside = l.inside; own = l.own; later = w }))
                 at (no z) (inr w) =
-                    absurd (none_between idents (item recs owners sc) (owner recs owners sc) sc (size recs) few chains x y some s ey q l.later (omega arith) l.own)
+                    absurd (none_between (item recs owners sc) (owner recs owners sc) sc.idents sc.owner (size recs) few chains x y some s ey q l.later (omega arith) l.own)
 
             on : Halting recs owners sc x → (q : ℕ) → (Behind recs owners sc x q) ⊎ (q ≡ x) → Behind recs owners sc y q
             on s q (inl (inl i)) = inl i

@@ -6,16 +6,18 @@ use Prim.Native.Nat.{ℕ, suc, ◌+◌, ◌*◌, ◌<◌, ◌≤◌}
 use native.Mathlib.Omega.{arith}
 use native.Mathlib.Decide.{ℕ_discrete}
 use lib.ListN.{length, get_or}
-use borrow.Author.Tests.{lt-ltb, eq-eqb, ne_eqb}
+use borrow.Author.Tests.{le-leb, eq-eqb, ne_eqb}
 use Rattle.pool.specs.Value.{plain, Const, effect_at, seen, intern, start}
 use Rattle.pool.specs.declared.consts.ConstWords.{ConstWords}
 use Rattle.pool.specs.Consts.{made, words_of, const_of, at, entry, entries, table, room, put3, put_const, laid, written, Told as ToldIn, AllTold as AllToldIn}
-use Rattle.pool.proofs.TableLaws.{put3_length, put3_other, below_other, put3_entry, words_const}
+use mathlib.Core.Logic.{inr}
+use Rattle.pool.proofs.PutLaws.{put_length, put_other}
+use Rattle.pool.proofs.TableLaws.{below_other, put3_entry, words_const}
 
 pub laid_length : (ws : List ℕ) (n : ℕ) (cs : List Const) → length (laid ws n cs) ≡ length ws
 unfolding laid
 laid_length ws n [] = refl
-laid_length ws n (c ∷ cs) = laid_length (put_const ws n c) (suc n) cs ∙ put3_length ws n (words_of c).kind (words_of c).low (words_of c).high
+laid_length ws n (c ∷ cs) = laid_length (put_const ws n c) (suc n) cs ∙ put_length ws n ((words_of c).kind ∷ (words_of c).low ∷ (words_of c).high ∷ [])
 
 -- words past the laid ones stay as they were
 pub laid_past : (ws : List ℕ) (n : ℕ) (cs : List Const) (x : ℕ) → (n + length cs) * 3 ≤ x → get_or (laid ws n cs) x 0 ≡ get_or ws x 0
@@ -23,7 +25,7 @@ unfolding laid
 laid_past ws n [] x h = refl
 laid_past ws n (c ∷ cs) x h =
     laid_past (put_const ws n c) (suc n) cs x (omega arith)
-    ∙ put3_other ws n (words_of c).kind (words_of c).low (words_of c).high x (λ e. omega arith) (λ e. omega arith) (λ e. omega arith)
+    ∙ put_other ws n ((words_of c).kind ∷ (words_of c).low ∷ (words_of c).high ∷ []) x (inr (omega arith))
 
 -- and so do the entries before
 laid_before : (ws : List ℕ) (n : ℕ) (cs : List Const) (i j : ℕ) → i < n → j < 3 → at (laid ws n cs) i j ≡ at ws i j
@@ -79,12 +81,12 @@ module _ (recs : List ℕ) where
   entries_laid ws n (c ∷ cs) (e, t) h =
       let us = put_const ws n c in
       let vs = laid us (suc n) cs in
-      let r : room ws n ≡ true = lt-ltb (n * 3 + 2) (length ws) (omega arith) in
+      let r : room ws n ≡ true = le-leb (n * 3 + 3) (length ws) (omega arith) in
       let x = laid_before us (suc n) cs n 0 (omega arith) (omega arith) in
       let y = laid_before us (suc n) cs n 1 (omega arith) (omega arith) in
       let z = laid_before us (suc n) cs n 2 (omega arith) (omega arith) in
       let g : entry recs vs n ≡ entry recs us n = ap₂ (λ a b. const_of recs a b (at vs n 2)) x y ∙ ap (const_of recs (at us n 0) (at us n 1)) z in
-      let l = put3_length ws n (words_of c).kind (words_of c).low (words_of c).high in
+      let l = put_length ws n ((words_of c).kind ∷ (words_of c).low ∷ (words_of c).high ∷ []) in
       ap₂ ◌∷◌ (g ∙ put3_entry ws n (words_of c).kind (words_of c).low (words_of c).high r recs ∙ e) (entries_laid us (suc n) cs t (omega arith))
 
   -- the table in laid words is the list

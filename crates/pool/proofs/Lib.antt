@@ -5,6 +5,7 @@ pub mod ConstsLaws
 pub mod TableLaws
 pub mod LaidLaws
 pub mod Basics
+pub mod PutLaws
 pub mod WordParts
 pub mod EntryLaws
 pub mod NameTables

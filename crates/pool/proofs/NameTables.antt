@@ -4,14 +4,19 @@ use mathlib.Core.Bool.{Bool, true, false, cond}
 use mathlib.Core.List.{List, [], ◌∷◌, ◌++◌, append_assoc, append-nil}
 use Prim.Native.Nat.{ℕ, suc, ◌+◌, ◌-◌, ◌≤◌, ◌<◌}
 use native.Mathlib.Omega.{arith}
-use lib.ListN.{length, get_or, take, length-append, length-take}
+use lib.ListN.{set, length, get_or, take, length-append, length-take}
 use lib.Seq.{take-suc, take-length}
-use lib.Dec.{eqb}
-use borrow.Author.Tests.{eq-eqb, ne_eqb, le-leb, lt-leb}
+use borrow.Author.Tests.{le-leb, lt-leb}
+use denote.Enum.Bare.{sameb}
+use Rattle.std.specs.Prelude.{Option, Some, None}
+use Rattle.pool.specs.declared.spans.Span.{Span}
 use Rattle.pool.specs.Consts.{put3}
-use Rattle.pool.specs.Scope.{LOCALS, GLOBALS, UPVALUES}
-use Rattle.pool.specs.Names.{Semantic, Upvalue, upvalue_symbols, Names, no_names, Place, at, nowhere, is_global, index_of, captured, with_symbol, with_symbols}
-use Rattle.pool.specs.NameWords.{plain, plains, entries_of, entries_laid, put_span, span_of, captured_as, class_of, slot_of, entry_for, chosen, made}
+use Rattle.pool.specs.Scope.{same_table}
+use Rattle.pool.specs.declared.scope.Table.{Table}
+use Rattle.pool.specs.contracts.scope.Table.{the_type}
+use Rattle.pool.specs.declared.scope.Table.TheVariants.{Locals, Globals, Upvalues}
+use Rattle.pool.specs.Names.{Semantic, Upvalue, upvalue_symbols, Names, no_names, is_global, index_of, captured, with_symbol, with_symbols}
+use Rattle.pool.specs.NameWords.{plain, plains, entries_of, entries_laid, span_of, captured_as, class_of, slot_of, entry_for, chosen, made}
 use Rattle.pool.specs.NameSteps.{entries_named, spans_named}
 use Rattle.pool.specs.declared.names.Class.{Class}
 use Rattle.pool.specs.declared.names.Class.TheVariants.{Local as Own, Global as Shared, CapturedLocal, CapturedUpvalue}
@@ -49,28 +54,40 @@ entries_length n =
       plains_length n.globals,
     )
 
+-- the derived comparison of tables
+pub tables_compared : (a b : Table) → sameb the_type a b ≡ same_table a b
+tables_compared Locals Locals = refl
+tables_compared Locals Globals = refl
+tables_compared Locals Upvalues = refl
+tables_compared Globals Locals = refl
+tables_compared Globals Globals = refl
+tables_compared Globals Upvalues = refl
+tables_compared Upvalues Locals = refl
+tables_compared Upvalues Globals = refl
+tables_compared Upvalues Upvalues = refl
+
 -- one symbol in the pass for table k, by its class and slot
-module _ (ws ws' : List ℕ) (n k s : ℕ) (cl c : Class) (slot : Slot) (ec : c ≡ cl) (es : slot ≡ slot_of c) where
+module _ (ws ws' : List ℕ) (n : ℕ) (k : Table) (s : ℕ) (cl c : Class) (slot : Slot) (ec : c ≡ cl) (es : slot ≡ slot_of c) where
   abbrev as_slot : Slot → List Upvalue
-  as_slot x = cond (eqb x.table k) (record { symbol = s; capture = x.capture; index = x.index } ∷ []) []
+  as_slot x = cond (same_table x.table k) (record { symbol = s; capture = x.capture; index = x.index } ∷ []) []
 
   seen : entry_for k cl s ≡ as_slot slot
   seen = ap (λ (x : Class). entry_for k x s) (sym ec) ∙ ap as_slot (sym es)
 
-  pub step_kept : slot.table ≡ k → ws' ≡ put3 ws n s slot.capture slot.index → (ws' ≡ entries_laid ws n (entry_for k cl s)) × (n + 1 ≡ n + length (entry_for k cl s))
+  pub step_kept : same_table slot.table k ≡ true → ws' ≡ put3 ws n s slot.capture slot.index → (ws' ≡ entries_laid ws n (entry_for k cl s)) × (n + 1 ≡ n + length (entry_for k cl s))
   unfolding entries_laid
   step_kept et p =
-      let e = seen ∙ on_true _ _ _ (eq-eqb _ _ et) in (
+      let e = seen ∙ on_true _ _ _ et in (
         p ∙ sym (ap (entries_laid ws n) e),
         omega (arith, ap length e),
       )
 
-  pub step_left : (slot.table ≡ k → ⊥) → (ws ≡ entries_laid ws n (entry_for k cl s)) × (n ≡ n + length (entry_for k cl s))
+  pub step_left : same_table slot.table k ≡ false → (ws ≡ entries_laid ws n (entry_for k cl s)) × (n ≡ n + length (entry_for k cl s))
   unfolding entries_laid
-  step_left et = let e = seen ∙ on_false _ _ _ (ne_eqb _ _ et) in (sym (ap (entries_laid ws n) e), omega (arith, ap length e))
+  step_left et = let e = seen ∙ on_false _ _ _ et in (sym (ap (entries_laid ws n) e), omega (arith, ap length e))
 
 -- a pass over the share
-module _ (k : ℕ) (cl : ℕ → Class) where
+module _ (k : Table) (cl : ℕ → Class) where
   abbrev pub one : ℕ → List Upvalue
   one s = entry_for k (cl s) s
 
@@ -80,7 +97,7 @@ module _ (k : ℕ) (cl : ℕ → Class) where
   chosen_snoc (x ∷ ss) s = ap (λ (l : List Upvalue). one x ++ l) (chosen_snoc ss s) ∙ sym (append_assoc (one x) (chosen k cl ss) (one s))
 
   one_most : (s : ℕ) → length (one s) ≤ 1
-  one_most s = go (eqb (slot_of (cl s)).table k) (record { symbol = s; capture = (slot_of (cl s)).capture; index = (slot_of (cl s)).index })
+  one_most s = go (same_table (slot_of (cl s)).table k) (record { symbol = s; capture = (slot_of (cl s)).capture; index = (slot_of (cl s)).index })
     where
       go : (b : Bool) (u : Upvalue) → length {A = Upvalue} (cond b (u ∷ []) []) ≤ 1
       go true u = omega arith
@@ -127,10 +144,10 @@ plain_if : (b : Bool) (s : ℕ) → plains (upvalue_symbols (cond b (plain s ∷
 plain_if true s = refl
 plain_if false s = refl
 
-module _ (k : ℕ) (other : eqb UPVALUES k ≡ false) where
+module _ (k : Table) (other : same_table Upvalues k ≡ false) where
   plain_entry : (c : Class) (s : ℕ) → plains (upvalue_symbols (entry_for k c s)) ≡ entry_for k c s
-  plain_entry Own s = plain_if (eqb LOCALS k) s
-  plain_entry Shared s = plain_if (eqb GLOBALS k) s
+  plain_entry Own s = plain_if (same_table Locals k) s
+  plain_entry Shared s = plain_if (same_table Globals k) s
   plain_entry (CapturedLocal i) s = rw other
   plain_entry (CapturedUpvalue i) s = rw other
 
@@ -148,18 +165,18 @@ module _ (k : ℕ) (other : eqb UPVALUES k ≡ false) where
 -- three passes in a row, and the span
 module _ (cl : ℕ → Class) (ss : List ℕ) where
   abbrev c1 : List Upvalue
-  c1 = chosen LOCALS cl ss
+  c1 = chosen Locals cl ss
 
   abbrev c2 : List Upvalue
-  c2 = chosen GLOBALS cl ss
+  c2 = chosen Globals cl ss
 
   abbrev c3 : List Upvalue
-  c3 = chosen UPVALUES cl ss
+  c3 = chosen Upvalues cl ss
 
   in_turn : c1 ++ (c2 ++ c3) ≡ entries_of (made cl ss)
   in_turn =
-      ap (λ (l : List Upvalue). l ++ (c2 ++ c3)) (sym (plain_chosen LOCALS refl cl ss))
-      ∙ ap (λ (l : List Upvalue). plains (upvalue_symbols c1) ++ (l ++ c3)) (sym (plain_chosen GLOBALS refl cl ss))
+      ap (λ (l : List Upvalue). l ++ (c2 ++ c3)) (sym (plain_chosen Locals refl cl ss))
+      ∙ ap (λ (l : List Upvalue). plains (upvalue_symbols c1) ++ (l ++ c3)) (sym (plain_chosen Globals refl cl ss))
 
   module _ (ws ws1 ws2 ws3 : List ℕ) (n a b e : ℕ) (w1 : ws1 ≡ entries_laid ws n c1) (p1 : a ≡ n + length c1) (w2 : ws2 ≡ entries_laid ws1 a c2) (p2 : b ≡ a + length c2)
       (w3 : ws3 ≡ entries_laid ws2 b c3) (p3 : e ≡ b + length c3) (few : length ss ≤ 1024) where
@@ -172,7 +189,7 @@ module _ (cl : ℕ → Class) (ss : List ℕ) where
         ∙ (ap₂ (λ (x : List ℕ) (y : ℕ). entries_laid x y c3) step2 z
         ∙ (sym (laid_append ws n (c1 ++ c2) c3) ∙ (ap (entries_laid ws n) (append_assoc c1 c2 c3 ∙ in_turn) ∙ sym (on_true _ _ _ (le-leb _ _ few)))))
 
-    pub span_laid : (sp sp' : List ℕ) (f s : ℕ) → s ≡ (span_of sp f).start → sp' ≡ put_span sp f (record { start = s; locals = a - n; globals = b - a; upvalues = e - b })
+    pub span_laid : (sp sp' : List Span) (f s : ℕ) → s ≡ (span_of sp f).start → sp' ≡ set sp f (record { start = s; locals = a - n; globals = b - a; upvalues = e - b })
         → sp' ≡ spans_named cl ss sp f
     unfolding spans_named
     span_laid sp sp' f s es q =
@@ -182,35 +199,35 @@ module _ (cl : ℕ → Class) (ss : List ℕ) where
         q ∙ (rw (d1, d2, d3, es) refl ∙ sym (on_true _ _ _ (le-leb _ _ few)))
 
 -- more symbols than row 1 allows
-pub none_laid : (cl : ℕ → Class) (ss ws sp : List ℕ) (n f : ℕ) → 1024 < length ss → (ws ≡ entries_named cl ss ws n) × (sp ≡ spans_named cl ss sp f)
+pub none_laid : (cl : ℕ → Class) (ss ws : List ℕ) (sp : List Span) (n f : ℕ) → 1024 < length ss → (ws ≡ entries_named cl ss ws n) × (sp ≡ spans_named cl ss sp f)
 unfolding entries_named spans_named
 none_laid cl ss ws sp n f h = (sym (on_false _ _ _ (lt-leb _ _ h)), sym (on_false _ _ _ (lt-leb _ _ h)))
 
 -- the tables with the entries of one symbol behind
-abbrev behind : Names → (ℕ → List Upvalue) → Names
+abbrev behind : Names → (Table → List Upvalue) → Names
 behind n e =
-    record { locals = n.locals ++ upvalue_symbols (e LOCALS); globals = n.globals ++ upvalue_symbols (e GLOBALS); upvalues = n.upvalues ++ e UPVALUES }
+    record { locals = n.locals ++ upvalue_symbols (e Locals); globals = n.globals ++ upvalue_symbols (e Globals); upvalues = n.upvalues ++ e Upvalues }
 
 behind_none : (n : Names) → behind n (λ k. []) ≡ n
 behind_none n = rw (append-nil n.locals, append-nil n.globals, append-nil n.upvalues)
 
-behind_then : (n : Names) (e g : ℕ → List Upvalue) → behind (behind n e) g ≡ behind n (λ k. e k ++ g k)
+behind_then : (n : Names) (e g : Table → List Upvalue) → behind (behind n e) g ≡ behind n (λ k. e k ++ g k)
 behind_then n e g =
     rw (
-      symbols_append (e LOCALS) (g LOCALS),
-      symbols_append (e GLOBALS) (g GLOBALS),
-      append_assoc n.locals (upvalue_symbols (e LOCALS)) (upvalue_symbols (g LOCALS)),
-      append_assoc n.globals (upvalue_symbols (e GLOBALS)) (upvalue_symbols (g GLOBALS)),
-      append_assoc n.upvalues (e UPVALUES) (g UPVALUES),
+      symbols_append (e Locals) (g Locals),
+      symbols_append (e Globals) (g Globals),
+      append_assoc n.locals (upvalue_symbols (e Locals)) (upvalue_symbols (g Locals)),
+      append_assoc n.globals (upvalue_symbols (e Globals)) (upvalue_symbols (g Globals)),
+      append_assoc n.upvalues (e Upvalues) (g Upvalues),
     )
 
-by_class : (b : Bool) (l u : Place) (s : ℕ) (n : Names)
+by_class : (b : Bool) (l u : Option ℕ) (s : ℕ) (n : Names)
     → cond b (record { locals = n.locals; globals = n.globals ++ (s ∷ []); upvalues = n.upvalues }) (captured s l u n)
     ≡ behind n (λ k. entry_for k (cond b Shared (captured_as l u)) s)
 by_class true l u s n = rw (append-nil n.locals, append-nil n.upvalues)
-by_class false (at i) u s n = rw (append-nil n.locals, append-nil n.globals)
-by_class false nowhere (at i) s n = rw (append-nil n.locals, append-nil n.globals)
-by_class false nowhere nowhere s n = rw (append-nil n.globals, append-nil n.upvalues)
+by_class false (Some i) u s n = rw (append-nil n.locals, append-nil n.globals)
+by_class false None (Some i) s n = rw (append-nil n.locals, append-nil n.globals)
+by_class false None None s n = rw (append-nil n.globals, append-nil n.upvalues)
 
 module _ (t : Semantic) (up : Names) where
   one_symbol : (s : ℕ) (n : Names) → with_symbol t up s n ≡ behind n (λ k. one k (class_of t up) s)
@@ -230,13 +247,13 @@ module _ (t : Semantic) (up : Names) where
   in_passes ss = in_order ss no_names
 
 -- a symbol goes to one of the three tables
-one_table : (c : Class) (s : ℕ) → length (entry_for LOCALS c s) + length (entry_for GLOBALS c s) + length (entry_for UPVALUES c s) ≡ 1
+one_table : (c : Class) (s : ℕ) → length (entry_for Locals c s) + length (entry_for Globals c s) + length (entry_for Upvalues c s) ≡ 1
 one_table Own s = refl
 one_table Shared s = refl
 one_table (CapturedLocal i) s = refl
 one_table (CapturedUpvalue i) s = refl
 
-pub chosen_length : (cl : ℕ → Class) (ss : List ℕ) → length (chosen LOCALS cl ss) + length (chosen GLOBALS cl ss) + length (chosen UPVALUES cl ss) ≡ length ss
+pub chosen_length : (cl : ℕ → Class) (ss : List ℕ) → length (chosen Locals cl ss) + length (chosen Globals cl ss) + length (chosen Upvalues cl ss) ≡ length ss
 unfolding chosen
 chosen_length cl [] = refl
 chosen_length cl (s ∷ ss) =
@@ -244,20 +261,20 @@ chosen_length cl (s ∷ ss) =
       arith,
       chosen_length cl ss,
       one_table (cl s) s,
-      length-append (one LOCALS cl s) (chosen LOCALS cl ss),
-      length-append (one GLOBALS cl s) (chosen GLOBALS cl ss),
-      length-append (one UPVALUES cl s) (chosen UPVALUES cl ss),
+      length-append (one Locals cl s) (chosen Locals cl ss),
+      length-append (one Globals cl s) (chosen Globals cl ss),
+      length-append (one Upvalues cl s) (chosen Upvalues cl ss),
     )
 
 pub made_length : (cl : ℕ → Class) (ss : List ℕ) → length (entries_of (made cl ss)) ≡ length ss
 made_length cl ss =
-    omega (arith, entries_length (made cl ss), chosen_length cl ss, symbols_length (chosen LOCALS cl ss), symbols_length (chosen GLOBALS cl ss))
+    omega (arith, entries_length (made cl ss), chosen_length cl ss, symbols_length (chosen Locals cl ss), symbols_length (chosen Globals cl ss))
 
 -- classes that agree make the same tables
-pub chosen_same : (k : ℕ) (cl cl' : ℕ → Class) → ((s : ℕ) → cl s ≡ cl' s) → (ss : List ℕ) → chosen k cl ss ≡ chosen k cl' ss
+pub chosen_same : (k : Table) (cl cl' : ℕ → Class) → ((s : ℕ) → cl s ≡ cl' s) → (ss : List ℕ) → chosen k cl ss ≡ chosen k cl' ss
 unfolding chosen
 chosen_same k cl cl' e [] = refl
 chosen_same k cl cl' e (s ∷ ss) = ap₂ (λ (a b : List Upvalue). a ++ b) (ap (λ (c : Class). entry_for k c s) (e s)) (chosen_same k cl cl' e ss)
 
 pub made_same : (cl cl' : ℕ → Class) → ((s : ℕ) → cl s ≡ cl' s) → (ss : List ℕ) → made cl ss ≡ made cl' ss
-made_same cl cl' e ss = rw (chosen_same LOCALS cl cl' e ss, chosen_same GLOBALS cl cl' e ss, chosen_same UPVALUES cl cl' e ss)
+made_same cl cl' e ss = rw (chosen_same Locals cl cl' e ss, chosen_same Globals cl cl' e ss, chosen_same Upvalues cl cl' e ss)

@@ -1,13 +1,14 @@
 -- The names of the first functions, one function more at each step. Assumes nothing.
 use mathlib.Core.Path.{◌≡◌, refl, sym, ap, ◌∙◌}
 use mathlib.Core.List.{List, [], ◌∷◌, ◌++◌, append_assoc, append-nil}
-use Prim.Native.Nat.{ℕ, zero, suc, ◌+◌, ◌*◌, ◌≤◌, ◌<◌}
+use Prim.Native.Nat.{ℕ, zero, suc, ◌+◌, ◌≤◌, ◌<◌}
 use native.Mathlib.Omega.{arith}
 use lib.ListN.{length, get_or, drop, length-append, length-take, length-drop}
 use Rattle.tables.specs.Semantic.{share_start}
 use Rattle.tables.proofs.SemanticLaws.{start_mono}
 use Rattle.pool.specs.Names.{Semantic, function_count, parent, count_of_members, start_of_share, share, Upvalue, Names, no_names, with_symbols, names_upto}
-use Rattle.pool.specs.NameWords.{entries_of, all_entries, spans_from, span_words, span_for, class_of, made}
+use Rattle.pool.specs.declared.spans.Span.{Span}
+use Rattle.pool.specs.NameWords.{entries_of, all_entries, spans_from, span_for, class_of, made}
 use Rattle.pool.proofs.NameTables.{in_passes, made_length}
 
 -- one function more
@@ -16,15 +17,15 @@ unfolding all_entries
 entries_snoc [] n = append-nil (entries_of n)
 entries_snoc (m ∷ ns) n = ap (λ (l : List Upvalue). entries_of m ++ l) (entries_snoc ns n) ∙ sym (append_assoc (entries_of m) (all_entries ns) (entries_of n))
 
-pub spans_snoc : (ns : List Names) (s : ℕ) (n : Names) → spans_from s (ns ++ (n ∷ [])) ≡ spans_from s ns ++ span_words (span_for (s + length (all_entries ns)) n)
+pub spans_snoc : (ns : List Names) (s : ℕ) (n : Names) → spans_from s (ns ++ (n ∷ [])) ≡ spans_from s ns ++ (span_for (s + length (all_entries ns)) n ∷ [])
 unfolding all_entries spans_from
-spans_snoc [] s n = let z : s ≡ s + 0 = omega arith in ap (λ (k : ℕ). span_words (span_for k n)) z
+spans_snoc [] s n = let z : s ≡ s + 0 = omega arith in ap (λ (k : ℕ). span_for k n ∷ []) z
 spans_snoc (m ∷ ns) s n =
-    ap (λ (l : List ℕ). s ∷ length m.locals ∷ length m.globals ∷ length m.upvalues ∷ l)
+    ap (λ (l : List Span). span_for s m ∷ l)
     (spans_snoc ns (s + length (entries_of m)) n
-    ∙ ap (λ (k : ℕ). spans_from (s + length (entries_of m)) ns ++ span_words (span_for k n)) (omega (arith, length-append (entries_of m) (all_entries ns))))
+    ∙ ap (λ (k : ℕ). spans_from (s + length (entries_of m)) ns ++ (span_for k n ∷ [])) (omega (arith, length-append (entries_of m) (all_entries ns))))
 
-pub spans_length : (ns : List Names) (s : ℕ) → length (spans_from s ns) ≡ length ns * 4
+pub spans_length : (ns : List Names) (s : ℕ) → length (spans_from s ns) ≡ length ns
 unfolding spans_from
 spans_length [] s = refl
 spans_length (n ∷ ns) s = omega (arith, spans_length ns (s + length (entries_of n)))

@@ -10,13 +10,14 @@ use lib.ListN.{length, get_or, take, get_or-append, get_or-eq_default}
 use lib.Seq.{get_or_at, take-append-le, take_all}
 use lib.Dec.{ltb, leb, eqb}
 use borrow.Author.Tests.{ltb-true, ltb-false, leb-true, leb-false, eqb-true, eq-eqb}
+use Rattle.std.specs.Prelude.{Option, Some, None, option_map}
 use Rattle.tables.specs.Semantic.{symbol_of}
-use Rattle.tables.specs.declared.refusal.RunRule.TheVariants.{Reference}
+use Rattle.tables.specs.declared.refusal.RunRule.TheVariants.{Reference, Store}
 use Rattle.pool.specs.Names.{Semantic, function_count, is_global, parent, count_of_members, start_of_share, share}
 use Rattle.pool.specs.Names.{Upvalue, upvalue_symbols, Names, no_names, names_upto, names}
-use Rattle.pool.specs.Names.{Place, at, nowhere, later, index_of, Access, local, global, upvalue, missing}
-use Rattle.pool.specs.Names.{load, store, load_symbol, store_symbol, first_found, stored_global, stored_local}
-use Rattle.pool.specs.Scope.{LOCALS, GLOBALS, UPVALUES}
+use Rattle.pool.specs.Names.{index_of, Access, local, global, upvalue, missing}
+use Rattle.pool.specs.Names.{load, store, load_symbol, store_symbol, first_found, global_or, local_or}
+use Rattle.pool.specs.declared.scope.Table.TheVariants.{Locals, Globals, Upvalues}
 use Rattle.pool.specs.NameWords.{entries_of, captured_as, class_of, entry_for, chosen, made}
 use Rattle.pool.specs.NameSteps.{parent_owner, owner_names}
 use Rattle.pool.specs.declared.names.Class.TheVariants.{Global as Shared}
@@ -83,8 +84,8 @@ module _ (t : Semantic) where
   -- "1 name per member": each member is in one of the three tables
   pub names_count : (f : ℕ) → length (names t f).locals + length (names t f).globals + length (names t f).upvalues ≡ length (share t f)
   names_count f =
-      let c0 = chosen LOCALS (class_of t (parent_names t f)) (share t f) in
-      let c1 = chosen GLOBALS (class_of t (parent_names t f)) (share t f) in
+      let c0 = chosen Locals (class_of t (parent_names t f)) (share t f) in
+      let c1 = chosen Globals (class_of t (parent_names t f)) (share t f) in
       rw (names_made f) (omega (arith, symbols_length c0, symbols_length c1, chosen_length (class_of t (parent_names t f)) (share t f)))
 
   pub names_members : start_of_share t (function_count t) ≡ length t.members → (f : ℕ) → f < function_count t
@@ -95,30 +96,30 @@ module _ (t : Semantic) where
   entries_count whole f h = entries_length (names t f) ∙ names_members whole f h
 
 -- a place that is found is inside the list, and has the symbol
-abbrev pub Found : List ℕ → ℕ → Place → Type 0
-Found xs s (at i) = (i < length xs) × (get_or xs i 0 ≡ s)
-Found xs s nowhere = Unit {0}
+abbrev pub Found : List ℕ → ℕ → Option ℕ → Type 0
+Found xs s (Some i) = (i < length xs) × (get_or xs i 0 ≡ s)
+Found xs s None = Unit {0}
 
 pub index_found : (xs : List ℕ) (s : ℕ) → Found xs s (index_of xs s)
 unfolding index_of
 index_found [] s = tt
 index_found (x ∷ xs) s = go (eqb x s) refl (index_of xs s) (index_found xs s)
   where
-    go : (b : Bool) → eqb x s ≡ b → (p : Place) → Found xs s p → Found (x ∷ xs) s (cond b (at 0) (later p))
+    go : (b : Bool) → eqb x s ≡ b → (p : Option ℕ) → Found xs s p → Found (x ∷ xs) s (cond b (Some 0) (option_map suc p))
     go true e p h = (omega arith, eqb-true x s e)
-    go false e (at i) h = (omega (arith, h.0), h.1)
-    go false e nowhere h = tt
+    go false e (Some i) h = (omega (arith, h.0), h.1)
+    go false e None h = tt
 
 -- an element of the list is found, at the latest where it stands
-pub index_of_element : (xs : List ℕ) (s k : ℕ) → k < length xs → get_or xs k 0 ≡ s → (i : ℕ) × (index_of xs s ≡ at i) × (i ≤ k)
+pub index_of_element : (xs : List ℕ) (s k : ℕ) → k < length xs → get_or xs k 0 ≡ s → (i : ℕ) × (index_of xs s ≡ Some i) × (i ≤ k)
 unfolding index_of
 index_of_element [] s k h e = absurd (omega arith)
 index_of_element (x ∷ xs) s zero h e = (0, on_true _ _ _ (eq-eqb x s e), omega arith)
 index_of_element (x ∷ xs) s (suc k) h e = go (eqb x s) (index_of_element xs s k (omega arith) e)
   where
-    go : (b : Bool) → ((i : ℕ) × (index_of xs s ≡ at i) × (i ≤ k)) → (i : ℕ) × (cond b (at 0) (later (index_of xs s)) ≡ at i) × (i ≤ suc k)
+    go : (b : Bool) → ((i : ℕ) × (index_of xs s ≡ Some i) × (i ≤ k)) → (i : ℕ) × (cond b (Some 0) (option_map suc (index_of xs s)) ≡ Some i) × (i ≤ suc k)
     go true w = (0, refl, omega arith)
-    go false w = (suc w.0, ap later w.1, omega (arith, w.2))
+    go false w = (suc w.0, ap (option_map suc) w.1, omega (arith, w.2))
 
 -- an answer names a place inside its table
 abbrev pub InTable : Names → Access → Type 0
@@ -128,17 +129,17 @@ InTable n (upvalue i) = i < length n.upvalues
 InTable n (missing rule) = Unit {0}
 
 module _ (n : Names) (s : ℕ) where
-  loaded : (l u g : Place) → Found n.locals s l → Found (upvalue_symbols n.upvalues) s u → Found n.globals s g → InTable n (first_found l u g)
-  loaded (at i) u g hl hu hg = hl.0
-  loaded nowhere (at i) g hl hu hg = omega (arith, hu.0, symbols_length n.upvalues)
-  loaded nowhere nowhere (at i) hl hu hg = hg.0
-  loaded nowhere nowhere nowhere hl hu hg = tt
+  loaded : (l u g : Option ℕ) → Found n.locals s l → Found (upvalue_symbols n.upvalues) s u → Found n.globals s g → InTable n (first_found l u g)
+  loaded (Some i) u g hl hu hg = hl.0
+  loaded None (Some i) g hl hu hg = omega (arith, hu.0, symbols_length n.upvalues)
+  loaded None None (Some i) hl hu hg = hg.0
+  loaded None None None hl hu hg = tt
 
-  stored : (b : Bool) (g l : Place) → Found n.globals s g → Found n.locals s l → InTable n (cond b (stored_global g) (stored_local l))
-  stored true (at i) l hg hl = hg.0
-  stored true nowhere l hg hl = tt
-  stored false g (at i) hg hl = hl.0
-  stored false g nowhere hg hl = tt
+  stored : (b : Bool) (g l : Option ℕ) → Found n.globals s g → Found n.locals s l → InTable n (cond b (global_or Store g) (local_or Store l))
+  stored true (Some i) l hg hl = hg.0
+  stored true None l hg hl = tt
+  stored false g (Some i) hg hl = hl.0
+  stored false g None hg hl = tt
 
 either : (P : Access → Type 0) (b : Bool) (x y : Access) → P x → P y → P (cond b x y)
 either P true x y p q = p
@@ -182,18 +183,18 @@ all_at P (x ∷ xs) d a zero h = a.0
 all_at P (x ∷ xs) d a (suc k) h = all_at P xs d a.1 k (omega arith)
 
 module _ (t : Semantic) (up : Names) where
-  by_place : (s : ℕ) (b : Bool) (l u : Place) → Found up.locals s l → Found (upvalue_symbols up.upvalues) s u
-      → All (Captures up) (entry_for UPVALUES (cond b Shared (captured_as l u)) s)
+  by_place : (s : ℕ) (b : Bool) (l u : Option ℕ) → Found up.locals s l → Found (upvalue_symbols up.upvalues) s u
+      → All (Captures up) (entry_for Upvalues (cond b Shared (captured_as l u)) s)
   by_place s true l u hl hu = tt
-  by_place s false (at i) u hl hu = (inl (refl, hl.0, hl.1), tt)
-  by_place s false nowhere (at i) hl hu = (inr (refl, omega (arith, hu.0, symbols_length up.upvalues), hu.1), tt)
-  by_place s false nowhere nowhere hl hu = tt
+  by_place s false (Some i) u hl hu = (inl (refl, hl.0, hl.1), tt)
+  by_place s false None (Some i) hl hu = (inr (refl, omega (arith, hu.0, symbols_length up.upvalues), hu.1), tt)
+  by_place s false None None hl hu = tt
 
-  all_capture : (ss : List ℕ) → All (Captures up) (chosen UPVALUES (class_of t up) ss)
+  all_capture : (ss : List ℕ) → All (Captures up) (chosen Upvalues (class_of t up) ss)
   unfolding chosen
   all_capture [] = tt
   all_capture (s ∷ ss) =
-      all_append (Captures up) (one UPVALUES (class_of t up) s) (chosen UPVALUES (class_of t up) ss)
+      all_append (Captures up) (one Upvalues (class_of t up) s) (chosen Upvalues (class_of t up) ss)
       (by_place s (is_global t s) (index_of up.locals s) (index_of (upvalue_symbols up.upvalues) s)
       (index_found up.locals s) (index_found (upvalue_symbols up.upvalues) s)) (all_capture ss)
 

@@ -6,38 +6,13 @@ use Prim.Native.Nat.{ℕ, ◌+◌, ◌*◌, ◌/◌, ◌%◌, ◌≤◌, ◌<◌
 use native.Mathlib.Omega.{arith}
 use lib.ListN.{length}
 use lib.Dec.{ltb}
-use Rattle.tables.specs.Refusal.{run_number}
-use Rattle.tables.specs.declared.refusal.RunRule.{RunRule}
-use Rattle.tables.specs.declared.refusal.RunRule.TheVariants.{Reference, Load, Store, Operator, Lengths, Path, Skipped}
+use Rattle.std.specs.Prelude.{Option, Some, None}
+use Rattle.tables.specs.declared.refusal.RunRule.TheVariants.{Reference, Load, Store}
 use Rattle.tables.specs.Semantic.{symbol_of}
-use Rattle.pool.specs.Names.{Semantic, is_global, upvalue_symbols, Names, names, Place, at, nowhere, index_of}
-use Rattle.pool.specs.Names.{Access, local, global, upvalue, missing, first_found, stored_local, stored_global, load, store}
-use Rattle.pool.specs.NameWords.{access_of}
+use Rattle.pool.specs.Names.{Semantic, is_global, upvalue_symbols, Names, names, index_of}
+use Rattle.pool.specs.Names.{Access, local, global, upvalue, missing, first_found, local_or, global_or, load, store}
 use Rattle.pool.specs.Notes.{load_note, store_note, load_of, store_of}
-use Rattle.pool.specs.declared.lookup.Access.{Access as Answer}
 use Rattle.pool.proofs.NamesLaws.{InTable, load_inside, store_inside}
-
-number_most : (x : RunRule) → run_number x ≤ 16
-number_most Reference = omega arith
-number_most Load = omega arith
-number_most Store = omega arith
-number_most Operator = omega arith
-number_most Lengths = omega arith
-number_most Path = omega arith
-number_most Skipped = omega arith
-
-pub number_few : (n : ℕ) (x : RunRule) → n ≡ run_number x → n ≤ 16
-number_few n x e = omega (arith, number_most x)
-
--- equal answers have equal notes
-pub load_told : {x y : Answer} → x ≡ y → load_note (access_of x) ≡ load_note (access_of y)
-load_told e = ap (λ (a : Answer). load_note (access_of a)) e
-
-pub store_told : {x y : Answer} → x ≡ y → store_note (access_of x) ≡ store_note (access_of y)
-store_told e = ap (λ (a : Answer). store_note (access_of a)) e
-
-pub missing_note : (w n : ℕ) (x : RunRule) → w ≡ n * 4096 + 0 % 4096 → n ≡ run_number x → w ≡ run_number x * 4096
-missing_note w n x e q = omega arith
 
 -- a note's opcode and index
 code_of : (c i : ℕ) → (c * 4096 + i % 4096) / 4096 ≡ c
@@ -70,11 +45,11 @@ load_rule t f r =
     let s = symbol_of t.references r in
     either LoadRule (ltb r (length t.references)) _ _ (go (index_of n.locals s) (index_of (upvalue_symbols n.upvalues) s) (index_of n.globals s)) (inr refl)
   where
-    go : (l u g : Place) → LoadRule (first_found l u g)
-    go (at i) u g = tt
-    go nowhere (at i) g = tt
-    go nowhere nowhere (at i) = tt
-    go nowhere nowhere nowhere = inl refl
+    go : (l u g : Option ℕ) → LoadRule (first_found l u g)
+    go (Some i) u g = tt
+    go None (Some i) g = tt
+    go None None (Some i) = tt
+    go None None None = inl refl
 
 store_rule : (t : Semantic) (f r : ℕ) → StoreRule (store t f r)
 unfolding store
@@ -83,11 +58,11 @@ store_rule t f r =
     let s = symbol_of t.references r in
     either StoreRule (ltb r (length t.references)) _ _ (go (is_global t s) (index_of n.globals s) (index_of n.locals s)) (inr refl)
   where
-    go : (b : Bool) (g l : Place) → StoreRule (cond b (stored_global g) (stored_local l))
-    go true (at i) l = tt
-    go true nowhere l = inl refl
-    go false g (at i) = tt
-    go false g nowhere = inl refl
+    go : (b : Bool) (g l : Option ℕ) → StoreRule (cond b (global_or Store g) (local_or Store l))
+    go true (Some i) l = tt
+    go true None l = inl refl
+    go false g (Some i) = tt
+    go false g None = inl refl
 
 -- a note is read back, if a note holds every index
 module _ (n : Names) (few : length n.locals + length n.globals + length n.upvalues ≤ 4096) where

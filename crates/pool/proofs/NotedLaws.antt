@@ -14,7 +14,7 @@ use Rattle.tables.proofs.ForestLaws.{grown}
 use Rattle.tables.proofs.TreeLaws.{head, head_forest}
 use Rattle.tables.proofs.HandLaws.{first_inside, next_inside}
 use Rattle.pool.specs.Names.{Semantic, function_count, names, missing, load, store}
-use Rattle.pool.specs.Scope.{OWNERS}
+use Rattle.pool.specs.Chain.{OWNERS}
 use Rattle.pool.specs.NameSteps.{Fits}
 use Rattle.pool.specs.Notes.{RECORDS, earlier_noted, load_of, store_of, load_noted, store_noted, Noted}
 use Rattle.pool.specs.Resolve.{Grown, Resolved}

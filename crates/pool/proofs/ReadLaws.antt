@@ -9,6 +9,7 @@ use lib.Dec.{eqb}
 use borrow.Author.Tests.{lt-ltb, le-ltb, le-leb, lt-leb, eq-eqb, ne_eqb}
 use Rattle.tables.specs.Record.{Words, is_ident}
 use Rattle.tables.specs.Semantic.{parent_of, member_count}
+use Rattle.pool.specs.declared.spans.Span.{Span}
 use Rattle.pool.specs.NameWords.{span_of}
 use Rattle.pool.specs.NameSteps.{parent_owner}
 use Rattle.pool.specs.ResolveSteps.{owner_inside, share_from}
@@ -38,7 +39,7 @@ module _ (w : Words) where
   ident_none d e = rw (ne_eqb w.kind 2 d, ne_eqb w.kind 36 e)
 
 -- a function's share from its span's start on
-module _ (functions members spans : List ℕ) (f from count : ℕ) (es : from ≡ (span_of spans f).start) (ec : count ≡ member_count functions f) where
+module _ (functions members : List ℕ) (spans : List Span) (f from count : ℕ) (es : from ≡ (span_of spans f).start) (ec : count ≡ member_count functions f) where
   pub share_whole : from + count ≤ length members → take (from + count - from) (drop from members) ≡ share_from functions members (span_of spans f).start f
   share_whole h =
       let z : from + count - from ≡ count = omega arith in

@@ -2,69 +2,26 @@
 use mathlib.Core.Path.{◌≡◌, refl, sym, ap, ap₂, ◌∙◌}
 use mathlib.Core.Bool.{Bool, true, false, cond}
 use mathlib.Core.List.{List, [], ◌∷◌, ◌++◌}
-use Prim.Native.Nat.{ℕ, zero, suc, ◌+◌, ◌*◌, ◌<◌, ◌≤◌, min}
+use Prim.Native.Nat.{ℕ, zero, suc, ◌+◌, ◌*◌, ◌<◌, ◌≤◌}
 use native.Mathlib.Omega.{arith}
 use native.Mathlib.Decide.{ℕ_discrete}
-use lib.ListN.{length, get_or, set, length-set, length-append}
-use lib.Seq.{get_or-set_same, get_or-set_other}
-use borrow.Author.Tests.{ltb-true, eq-eqb, ne_eqb}
-use Rattle.pool.specs.Value.{plain, Const, effect_at, find, seen, intern, start}
-use Rattle.pool.specs.declared.consts.Added.TheVariants.{At, Full}
-use Rattle.pool.specs.Consts.{made, words, words_of, const_of, at, entry, entries, table, room, put3, most, added, written}
-use Rattle.pool.proofs.ConstsLaws.{intern_old, intern_new, seen_inside, seen_outside, added_old, added_new, added_full}
+use lib.ListN.{length, length-append}
+use borrow.Author.Tests.{leb-true, eq-eqb, ne_eqb}
+use Rattle.pool.specs.Value.{plain, Const, effect_at, seen, intern, start, found}
+use Rattle.std.specs.Prelude.{Some, None}
+use Rattle.pool.specs.Consts.{made, words, words_of, const_of, at, entry, entries, table, room, put3, written}
+use mathlib.Core.Logic.{inl}
+use Rattle.pool.proofs.PutLaws.{put_other, put_stands}
+use Rattle.pool.proofs.ConstsLaws.{intern_old, intern_new, found_seen, found_unseen}
 
 module _ (ws : List ℕ) (n k l h : ℕ) where
-  put3_room : room ws n ≡ true → put3 ws n k l h ≡ set (set (set ws (n * 3) k) (n * 3 + 1) l) (n * 3 + 2) h
-  unfolding put3
-  put3_room r = ap (λ b. cond b (set (set (set ws (n * 3) k) (n * 3 + 1) l) (n * 3 + 2) h) ws) r
-
-  pub put3_length : length (put3 ws n k l h) ≡ length ws
-  unfolding put3
-  put3_length = go (room ws n)
-    where
-      go : (b : Bool) → length (cond b (set (set (set ws (n * 3) k) (n * 3 + 1) l) (n * 3 + 2) h) ws) ≡ length ws
-      go true = simp length-set
-      go false = refl
-
-  -- the other words stay
-  pub put3_other : (x : ℕ) → (x ≡ n * 3 → ⊥) → (x ≡ n * 3 + 1 → ⊥) → (x ≡ n * 3 + 2 → ⊥) → get_or (put3 ws n k l h) x 0 ≡ get_or ws x 0
-  unfolding put3
-  put3_other x p q r = go (room ws n)
-    where
-      go : (b : Bool) → get_or (cond b (set (set (set ws (n * 3) k) (n * 3 + 1) l) (n * 3 + 2) h) ws) x 0 ≡ get_or ws x 0
-      go true =
-          get_or-set_other (set (set ws (n * 3) k) (n * 3 + 1) l) (n * 3 + 2) x h 0 r
-          ∙ get_or-set_other (set ws (n * 3) k) (n * 3 + 1) x l 0 q ∙ get_or-set_other ws (n * 3) x k 0 p
-      go false = refl
-
   pub below_other : (i j : ℕ) → i < n → j < 3 → at (put3 ws n k l h) i j ≡ at ws i j
-  below_other i j a b = put3_other (i * 3 + j) (λ e. omega arith) (λ e. omega arith) (λ e. omega arith)
+  below_other i j a b = put_other ws n (k ∷ l ∷ h ∷ []) (i * 3 + j) (inl (omega arith))
 
-  module _ (r : room ws n ≡ true) where
-    wide : n * 3 + 2 < length ws
-    wide = ltb-true (n * 3 + 2) (length ws) r
-
-    put_kind : at (put3 ws n k l h) n 0 ≡ k
-    put_kind =
-        let z : n * 3 + 0 ≡ n * 3 = omega arith in
-        let g = wide in
-        ap₂ (λ w x. get_or w x 0) (put3_room r) z ∙ get_or-set_other (set (set ws (n * 3) k) (n * 3 + 1) l) (n * 3 + 2) (n * 3) h 0 (λ e. omega arith)
-        ∙ get_or-set_other (set ws (n * 3) k) (n * 3 + 1) (n * 3) l 0 (λ e. omega arith) ∙ get_or-set_same ws (n * 3) k 0 (omega arith)
-
-    put_low : at (put3 ws n k l h) n 1 ≡ l
-    put_low =
-        let g = wide in
-        ap (λ w. get_or w (n * 3 + 1) 0) (put3_room r) ∙ get_or-set_other (set (set ws (n * 3) k) (n * 3 + 1) l) (n * 3 + 2) (n * 3 + 1) h 0 (λ e. omega arith)
-        ∙ get_or-set_same (set ws (n * 3) k) (n * 3 + 1) l 0 (omega (arith, length-set ws (n * 3) k))
-
-    put_high : at (put3 ws n k l h) n 2 ≡ h
-    put_high =
-        let g = wide in
-        ap (λ w. get_or w (n * 3 + 2) 0) (put3_room r)
-        ∙ get_or-set_same (set (set ws (n * 3) k) (n * 3 + 1) l) (n * 3 + 2) h 0 (omega (arith, length-set ws (n * 3) k, length-set (set ws (n * 3) k) (n * 3 + 1) l))
-
-    pub put3_entry : (recs : List ℕ) → entry recs (put3 ws n k l h) n ≡ const_of recs k l h
-    put3_entry recs = ap₂ (λ x y. const_of recs x y (at (put3 ws n k l h) n 2)) put_kind put_low ∙ ap (const_of recs k l) put_high
+  pub put3_entry : room ws n ≡ true → (recs : List ℕ) → entry recs (put3 ws n k l h) n ≡ const_of recs k l h
+  put3_entry r recs =
+      let s = put_stands ws n (k ∷ l ∷ h ∷ []) (leb-true (n * 3 + 3) (length ws) r) in
+      ap₂ (λ x y. const_of recs x y (at (put3 ws n k l h) n 2)) (s 0 (omega arith)) (s 1 (omega arith)) ∙ ap (const_of recs k l) (s 2 (omega arith))
 
 module _ (recs : List ℕ) where
   pub entries_length : (ws : List ℕ) (i m : ℕ) → length (entries recs ws i m) ≡ m
@@ -111,23 +68,12 @@ module _ (recs : List ℕ) where
     unfolding written
     written_new s = ap (λ b. cond b ws (put3 ws n k l h)) s
 
-    -- the answer and the words, by what the search found: an entry, or none among the n
-    abbrev cs : List Const
-    cs = table recs ws n
+    -- the words, by what the search found
+    pub put_old : (i : ℕ) → Some i ≡ found (table recs ws n) c.value → ws ≡ written recs ws n k l h
+    put_old i e = sym (written_old (found_seen (table recs ws n) c.value i e).0)
 
-    pub adds_old : (i : ℕ) → n ≤ most → i ≡ find cs c.value → i < n → (At i n ≡ added cs (room ws n) c) × (ws ≡ written recs ws n k l h)
-    adds_old i m e g =
-        (added_old cs (room ws n) c n i (table_length ws n) m e g, sym (written_old (seen_inside cs c.value (omega (arith, table_length ws n)))))
-
-    module _ (i m : ℕ) (b : Bool) (e : i ≡ find cs c.value) (g : n ≤ i) (em : m ≡ min (n + 1) most) (r : b ≡ room ws n) (ws' : List ℕ) (p : ws' ≡ put3 ws n k l h) where
-      put : ws' ≡ written recs ws n k l h
-      put = p ∙ sym (written_new (seen_outside cs c.value (omega (arith, table_length ws n))))
-
-      pub adds_new : b ≡ true → (At n m ≡ added cs (room ws n) c) × (ws' ≡ written recs ws n k l h)
-      adds_new t = (added_new cs (room ws n) c n i m (table_length ws n) e g em (sym r ∙ t), put)
-
-      pub adds_full : b ≡ false → (Full n m ≡ added cs (room ws n) c) × (ws' ≡ written recs ws n k l h)
-      adds_full t = (added_full cs (room ws n) c n i m (table_length ws n) e g em (sym r ∙ t), put)
+    pub put_new : None ≡ found (table recs ws n) c.value → put3 ws n k l h ≡ written recs ws n k l h
+    put_new e = sym (written_new (found_unseen (table recs ws n) c.value e))
 
     -- the table in the words after adding is the table with the constant, where there is room
     pub table_written : room ws n ≡ true → table recs (written recs ws n k l h) (length (intern (table recs ws n) c)) ≡ intern (table recs ws n) c

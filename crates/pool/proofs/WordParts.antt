@@ -57,14 +57,18 @@ module _ (ws : List ℕ) (i : ℕ) (xs ys : List ℕ) where
 pub stands_same : (ws ws' : List ℕ) (i : ℕ) (vs : List ℕ) → ((j : ℕ) → i ≤ j → j < i + length vs → get_or ws' j 0 ≡ get_or ws j 0) → Stands ws i vs → Stands ws' i vs
 stands_same ws ws' i vs e a k h = e (i + k) (omega arith) (omega arith) ∙ a k h
 
--- a front that stands, and words behind it as they were
-pub over_words : (ws o vs : List ℕ) → length ws ≡ length o → length vs ≤ length o → Stands ws 0 vs → ((j : ℕ) → length vs ≤ j → get_or ws j 0 ≡ get_or o j 0) → ws ≡ over vs o
-over_words ws o vs e h a b =
-    ext_get_or 0 ws (over vs o) (omega (arith, length-append vs (drop (length vs) o), length-drop (length vs) o)) (λ j p. go j (split (length vs) j))
+-- a front that stands, and what is behind it as it was
+pub over_items : {A : Type 0} (d : A) (ws o vs : List A) → length ws ≡ length o → length vs ≤ length o → ((j : ℕ) → j < length vs → get_or ws j d ≡ get_or vs j d)
+    → ((j : ℕ) → length vs ≤ j → get_or ws j d ≡ get_or o j d) → ws ≡ over vs o
+over_items {A} d ws o vs e h a b =
+    ext_get_or d ws (over vs o) (omega (arith, length-append vs (drop (length vs) o), length-drop (length vs) o)) (λ j p. go j (split (length vs) j))
   where
-    go : (j : ℕ) → (length vs ≤ j) ⊎ (j < length vs) → get_or ws j 0 ≡ get_or (over vs o) j 0
-    go j (inr p) = let z : 0 + j ≡ j = omega arith in ap (λ (k : ℕ). get_or ws k 0) (sym z) ∙ a j p ∙ sym (get_or-append vs (drop (length vs) o) 0 j p)
+    go : (j : ℕ) → (length vs ≤ j) ⊎ (j < length vs) → get_or ws j d ≡ get_or (over vs o) j d
+    go j (inr p) = a j p ∙ sym (get_or-append vs (drop (length vs) o) d j p)
     go j (inl p) =
         let z : length vs + (j - length vs) ≡ j = omega arith in
-        b j p ∙ sym (ap (λ (k : ℕ). get_or (over vs o) k 0) (sym z) ∙ get_or-append-add vs (drop (length vs) o) (j - length vs) 0
-        ∙ get_or-drop (length vs) o (j - length vs) 0 ∙ ap (λ (k : ℕ). get_or o k 0) z)
+        b j p ∙ sym (ap (λ (k : ℕ). get_or (over vs o) k d) (sym z) ∙ get_or-append-add vs (drop (length vs) o) (j - length vs) d
+        ∙ get_or-drop (length vs) o (j - length vs) d ∙ ap (λ (k : ℕ). get_or o k d) z)
+
+pub over_words : (ws o vs : List ℕ) → length ws ≡ length o → length vs ≤ length o → Stands ws 0 vs → ((j : ℕ) → length vs ≤ j → get_or ws j 0 ≡ get_or o j 0) → ws ≡ over vs o
+over_words ws o vs e h a b = over_items 0 ws o vs e h (λ j p. let z : 0 + j ≡ j = omega arith in ap (λ (k : ℕ). get_or ws k 0) (sym z) ∙ a j p) b

@@ -1,11 +1,11 @@
 -- The table of constants in lent words, and what adding one answers and writes. Document 01, 'The call': "constants (kind, two words: ..)". Definitions only.
-use Rattle.std.specs.Prelude.{◌≡◌, Bool, cond, ◌||◌, List, [], ◌∷◌, ℕ, zero, suc, ◌+◌, ◌*◌, min, length, get_or, set, ltb, eqb}
+use Rattle.std.specs.Prelude.{◌≡◌, Bool, cond, ◌||◌, List, [], ◌∷◌, ℕ, zero, suc, ◌+◌, ◌*◌, min, length, get_or, eqb}
 use Rattle.tables.specs.Record.{word}
 use Rattle.tables.specs.Forest.{own_tree, forest, children}
 use Rattle.pool.specs.Value.{Value, plain, Const, find, seen, intern, effect_at, kind_word, low_word, high_word, child, below, ident_names}
+use Rattle.pool.specs.Entries.{has_room, put_entry}
 use Rattle.pool.specs.declared.consts.ConstWords.{ConstWords}
 use Rattle.pool.specs.declared.consts.Added.{Added}
-use Rattle.pool.specs.declared.consts.Added.TheVariants.{At, Full}
 
 -- "6 Effect (p name): Ident, Params"; a Handler's name is its Ident's (reading 20)
 abbrev pub name_at : List ℕ → ℕ → ℕ
@@ -37,6 +37,10 @@ words k l h = record { kind = k; low = l; high = h }
 abbrev pub words_of : Const → ConstWords
 words_of c = words (kind_word c.value) (low_word c) (high_word c.value)
 
+-- the constant of a constant's words
+abbrev pub constant : List ℕ → ConstWords → Const
+constant recs v = const_of recs v.kind v.low v.high
+
 -- words of one entry
 abbrev pub width : ℕ
 width = 3
@@ -44,6 +48,9 @@ width = 3
 -- word j of entry i
 abbrev pub at : List ℕ → ℕ → ℕ → ℕ
 at ws i j = get_or ws (i * width + j) 0
+
+abbrev pub words_at : List ℕ → ℕ → ConstWords
+words_at ws i = words (at ws i 0) (at ws i 1) (at ws i 2)
 
 abbrev pub entry : List ℕ → List ℕ → ℕ → Const
 entry recs ws i = const_of recs (at ws i 0) (at ws i 1) (at ws i 2)
@@ -57,13 +64,13 @@ entries recs ws i (suc m) = entry recs ws i ∷ entries recs ws (suc i) m
 abbrev pub table : List ℕ → List ℕ → ℕ → List Const
 table recs ws n = entries recs ws 0 n
 
--- whether the words have room for entry n; "a rest that makes no whole entry is room that is not there" (reading 14)
+-- whether the words have room for entry n
 abbrev pub room : List ℕ → ℕ → Bool
-room ws n = ltb (n * width + 2) (length ws)
+room ws n = has_room ws n width
 
 -- the words with three put at entry n, where there is room
-unfoldable pub put3 : List ℕ → ℕ → ℕ → ℕ → ℕ → List ℕ
-put3 ws n k l h = cond (room ws n) (set (set (set ws (n * width) k) (n * width + 1) l) (n * width + 2) h) ws
+abbrev pub put3 : List ℕ → ℕ → ℕ → ℕ → ℕ → List ℕ
+put3 ws n k l h = put_entry ws n (k ∷ l ∷ h ∷ [])
 
 -- the words with the constants of a list laid from entry n on: "Words past the written ones stay as they were."
 abbrev pub put_const : List ℕ → ℕ → Const → List ℕ
@@ -78,20 +85,8 @@ abbrev pub most : ℕ
 most = 18446744073709551615
 
 -- what adding a constant answers, where the words have room for one more or not: "Constants start with Null and equal ones are one"
-unfoldable pub added : List Const → Bool → Const → Added
-added cs fits c =
-    cond (seen cs c.value || fits)
-    (At (find cs c.value) (min (length (intern cs c)) most))
-    (Full (find cs c.value) (min (length (intern cs c)) most))
-
--- "a definition that gives this paper's number and values for each of its cases": an answer's index and count
-abbrev pub index_of : Added → ℕ
-index_of (At i n) = i
-index_of (Full i n) = i
-
-abbrev pub count_of : Added → ℕ
-count_of (At i n) = n
-count_of (Full i n) = n
+abbrev pub added : List Const → Bool → Const → Added
+added cs fits c = record { index = find cs c.value; count = min (length (intern cs c)) most; kept = seen cs c.value || fits }
 
 -- the words after adding: a new value's three at entry n, and nothing else
 unfoldable pub written : List ℕ → List ℕ → ℕ → ℕ → ℕ → ℕ → List ℕ

@@ -1,6 +1,8 @@
 pub mod Value
+pub mod Entries
 pub mod Consts
 pub mod Names
+pub mod Chain
 pub mod Scope
 pub mod NameWords
 pub mod Lookups

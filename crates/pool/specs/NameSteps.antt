@@ -2,22 +2,24 @@
 use Rattle.std.specs.Prelude.{◌≡◌, cond, List, [], ◌∷◌, ℕ, zero, suc, ◌+◌, ◌*◌, ◌≤◌, ◌<◌, length, get_or, set, ltb, leb, eqb}
 use Rattle.tables.specs.Semantic.{symbol_kind, parent_of}
 use Rattle.pool.specs.Names.{Semantic, function_count, start_of_share, index_of, upvalue_symbols, Names, no_names, names}
-use Rattle.pool.specs.Scope.{OWNER, LOCALS, GLOBALS, UPVALUES, owner_of, index_in, stamps}
-use Rattle.pool.specs.NameWords.{entries_of, put_span, span_for, span_of, captured_as, made, entries_laid}
+use Rattle.pool.specs.Scope.{owner_of, index_in, stamps}
+use Rattle.pool.specs.declared.scope.Scope.{Scope}
+use Rattle.pool.specs.declared.scope.Table.TheVariants.{Locals, Globals, Upvalues}
+use Rattle.pool.specs.NameWords.{entries_of, span_for, span_of, captured_as, made, entries_laid}
 use Rattle.pool.specs.declared.spans.Span.{Span}
 use Rattle.pool.specs.declared.names.Class.{Class}
 use Rattle.pool.specs.declared.names.Class.TheVariants.{Global as Shared}
 
 -- the class of a symbol by the stamped names
-abbrev pub class_in : List ℕ → List ℕ → ℕ → Class
-class_in symbols ws s = cond (eqb (symbol_kind symbols s) 1) Shared (captured_as (index_in ws LOCALS s) (index_in ws UPVALUES s))
+abbrev pub class_in : List ℕ → Scope → ℕ → Class
+class_in symbols sc s = cond (eqb (symbol_kind symbols s) 1) Shared (captured_as (index_in sc Locals s) (index_in sc Upvalues s))
 
 -- a function's names from place n on, and its span; a share past row 1's limit has none
 unfoldable pub entries_named : (ℕ → Class) → List ℕ → List ℕ → ℕ → List ℕ
 entries_named cl ss ws n = cond (leb (length ss) 1024) (entries_laid ws n (entries_of (made cl ss))) ws
 
-unfoldable pub spans_named : (ℕ → Class) → List ℕ → List ℕ → ℕ → List ℕ
-spans_named cl ss sp f = cond (leb (length ss) 1024) (put_span sp f (span_for (span_of sp f).start (made cl ss))) sp
+unfoldable pub spans_named : (ℕ → Class) → List ℕ → List Span → ℕ → List Span
+spans_named cl ss sp f = cond (leb (length ss) 1024) (set sp f (span_for (span_of sp f).start (made cl ss))) sp
 
 -- the symbols of n entries from place a on
 unfoldable pub symbols_at : List ℕ → ℕ → ℕ → List ℕ
@@ -25,13 +27,13 @@ symbols_at ws a zero = []
 symbols_at ws a (suc n) = get_or ws (a * 3) 0 ∷ symbols_at ws (suc a) n
 
 -- the names of a span stamped, table by table
-abbrev pub stamped_names : List ℕ → List ℕ → Span → ℕ → List ℕ
-stamped_names ws es s o =
+abbrev pub stamped_names : Scope → List ℕ → Span → ℕ → Scope
+stamped_names sc es s o =
     stamps
     (stamps
-    (stamps (set ws OWNER o) LOCALS 0 (symbols_at es s.start s.locals))
-    GLOBALS 0 (symbols_at es (s.start + s.locals) s.globals))
-    UPVALUES 0 (symbols_at es (s.start + s.locals + s.globals) s.upvalues)
+    (stamps (record sc { owner = o }) Locals 0 (symbols_at es s.start s.locals))
+    Globals 0 (symbols_at es (s.start + s.locals) s.globals))
+    Upvalues 0 (symbols_at es (s.start + s.locals + s.globals) s.upvalues)
 
 -- the words vs stand in ws from i on
 abbrev pub Stands : List ℕ → ℕ → List ℕ → Type 0
@@ -42,7 +44,7 @@ pub record Fits (t : Semantic) (entries spans : ℕ) : Type 0 where
   pub functions_limit : function_count t ≤ 256
   pub members_limit : length t.members ≤ 1024
   pub entries_room : length t.members * 3 ≤ entries
-  pub spans_room : function_count t * 4 ≤ spans
+  pub spans_room : function_count t ≤ spans
   pub counted : start_of_share t (function_count t) ≡ length t.members
   pub symbols_limit : (m : ℕ) → m < length t.members → get_or t.members m 0 < 1024
 
@@ -55,7 +57,7 @@ owner_names t zero = no_names
 owner_names t (suc f) = names t f
 
 -- the stamped names are those of the owner
-pub record Shown (t : Semantic) (ws : List ℕ) : Type 0 where
-  pub locals : (s : ℕ) → index_in ws LOCALS s ≡ index_of (owner_names t (owner_of ws)).locals s
-  pub globals : (s : ℕ) → index_in ws GLOBALS s ≡ index_of (owner_names t (owner_of ws)).globals s
-  pub upvalues : (s : ℕ) → index_in ws UPVALUES s ≡ index_of (upvalue_symbols (owner_names t (owner_of ws)).upvalues) s
+pub record Shown (t : Semantic) (sc : Scope) : Type 0 where
+  pub locals : (s : ℕ) → index_in sc Locals s ≡ index_of (owner_names t (owner_of sc)).locals s
+  pub globals : (s : ℕ) → index_in sc Globals s ≡ index_of (owner_names t (owner_of sc)).globals s
+  pub upvalues : (s : ℕ) → index_in sc Upvalues s ≡ index_of (upvalue_symbols (owner_names t (owner_of sc)).upvalues) s

@@ -1,5 +1,5 @@
 -- Each function's names and what a load or a store finds. Document 01, 'Down through a function'. Definitions only.
-use Rattle.std.specs.Prelude.{Bool, cond, List, [], ◌∷◌, ◌++◌, ℕ, zero, suc, length, get_or, ltb, eqb}
+use Rattle.std.specs.Prelude.{Bool, cond, Option, Some, None, option_map, List, [], ◌∷◌, ◌++◌, ℕ, zero, suc, length, get_or, ltb, eqb}
 use Rattle.tables.specs.Semantic.{pairs, symbol_kind, symbol_of, parent_of, member_count, share_start, share as share_of}
 use Rattle.tables.specs.declared.refusal.RunRule.{RunRule}
 use Rattle.tables.specs.declared.refusal.RunRule.TheVariants.{Reference, Load, Store}
@@ -50,27 +50,19 @@ abbrev pub no_names : Names
 no_names = record { locals = []; globals = []; upvalues = [] }
 
 -- the index of a symbol, or none
-pub data Place : Type 0 where
-  at : ℕ → Place
-  nowhere : Place
-
-abbrev pub later : Place → Place
-later (at i) = at (suc i)
-later nowhere = nowhere
-
-unfoldable pub index_of : List ℕ → ℕ → Place
-index_of [] s = nowhere
-index_of (x ∷ xs) s = cond (eqb x s) (at 0) (later (index_of xs s))
+unfoldable pub index_of : List ℕ → ℕ → Option ℕ
+index_of [] s = None
+index_of (x ∷ xs) s = cond (eqb x s) (Some 0) (option_map suc (index_of xs s))
 
 abbrev pub upvalue_symbols : List Upvalue → List ℕ
 upvalue_symbols [] = []
 upvalue_symbols (u ∷ us) = u.symbol ∷ upvalue_symbols us
 
 -- "A Local found in the parent's locals, else in its upvalues, is captured; otherwise it is a local."
-abbrev pub captured : ℕ → Place → Place → Names → Names
-captured s (at i) u n = record { locals = n.locals; globals = n.globals; upvalues = n.upvalues ++ (record { symbol = s; capture = 1; index = i } ∷ []) }
-captured s nowhere (at i) n = record { locals = n.locals; globals = n.globals; upvalues = n.upvalues ++ (record { symbol = s; capture = 2; index = i } ∷ []) }
-captured s nowhere nowhere n = record { locals = n.locals ++ (s ∷ []); globals = n.globals; upvalues = n.upvalues }
+abbrev pub captured : ℕ → Option ℕ → Option ℕ → Names → Names
+captured s (Some i) u n = record { locals = n.locals; globals = n.globals; upvalues = n.upvalues ++ (record { symbol = s; capture = 1; index = i } ∷ []) }
+captured s None (Some i) n = record { locals = n.locals; globals = n.globals; upvalues = n.upvalues ++ (record { symbol = s; capture = 2; index = i } ∷ []) }
+captured s None None n = record { locals = n.locals ++ (s ∷ []); globals = n.globals; upvalues = n.upvalues }
 
 -- "A Global goes to globals."
 unfoldable pub with_symbol : Semantic → Names → ℕ → Names → Names
@@ -96,33 +88,30 @@ pub data Access : Type 0 where
   local global upvalue : ℕ → Access
   missing : RunRule → Access
 
-abbrev pub else_global : Place → Access
-else_global (at i) = global i
-else_global nowhere = missing Load
+-- what is found in one table, or the rule that is broken where it is not
+abbrev pub local_or : RunRule → Option ℕ → Access
+local_or rule (Some i) = local i
+local_or rule None = missing rule
 
-abbrev pub else_upvalue : Place → Place → Access
-else_upvalue (at i) g = upvalue i
-else_upvalue nowhere g = else_global g
+abbrev pub global_or : RunRule → Option ℕ → Access
+global_or rule (Some i) = global i
+global_or rule None = missing rule
+
+abbrev pub else_upvalue : Option ℕ → Option ℕ → Access
+else_upvalue (Some i) g = upvalue i
+else_upvalue None g = global_or Load g
 
 -- "A load looks in locals, upvalues, globals."
-abbrev pub first_found : Place → Place → Place → Access
-first_found (at i) u g = local i
-first_found nowhere u g = else_upvalue u g
+abbrev pub first_found : Option ℕ → Option ℕ → Option ℕ → Access
+first_found (Some i) u g = local i
+first_found None u g = else_upvalue u g
 
 abbrev pub load_symbol : Names → ℕ → Access
 load_symbol n s = first_found (index_of n.locals s) (index_of (upvalue_symbols n.upvalues) s) (index_of n.globals s)
 
-abbrev pub stored_local : Place → Access
-stored_local (at i) = local i
-stored_local nowhere = missing Store
-
-abbrev pub stored_global : Place → Access
-stored_global (at i) = global i
-stored_global nowhere = missing Store
-
 -- number 12: "store: symbol not in the table of its kind (a captured one is not)"
 abbrev pub store_symbol : Semantic → Names → ℕ → Access
-store_symbol t n s = cond (is_global t s) (stored_global (index_of n.globals s)) (stored_local (index_of n.locals s))
+store_symbol t n s = cond (is_global t s) (global_or Store (index_of n.globals s)) (local_or Store (index_of n.locals s))
 
 -- number 10: "reference out of range, where loaded or stored"
 unfoldable pub load : Semantic → ℕ → ℕ → Access

@@ -4,6 +4,7 @@ use Rattle.tables.specs.Record.{word, words, size, is_function}
 use Rattle.tables.specs.Forest.{next, children}
 use Rattle.tables.specs.Naming.{Joined}
 use Rattle.tables.specs.declared.refusal.RunRule.TheVariants.{Reference}
+use Rattle.pool.specs.declared.spans.Span.{Span}
 use Rattle.pool.specs.Names.{Semantic, function_count, missing}
 use Rattle.pool.specs.NameWords.{fits, entries_after, spans_after}
 use Rattle.pool.specs.Notes.{SIZE, earlier_noted, load_noted, store_noted, Noted}
@@ -28,7 +29,7 @@ pub record Resolved (t : Semantic) (recs ns : List ℕ) : Type 0 where
   pub earlier : (c : ℕ) → (next recs c ≡ 0 → ⊥) → earlier_noted ns (next recs c) ≡ c
 
 -- entries, spans and notes before and after; the notes of tables that break a row are free
-pub record Resolves (t : Semantic) (recs ws sp ns ws' sp' ns' : List ℕ) : Type 0 where
+pub record Resolves (t : Semantic) (recs ws : List ℕ) (sp : List Span) (ns ws' : List ℕ) (sp' : List Span) (ns' : List ℕ) : Type 0 where
   pub entries : ws' ≡ entries_after t ws sp
   pub spans : sp' ≡ spans_after t ws sp
   pub notes : Grown t recs → fits t (length ws) (length sp) ≡ true → Blank ns → Resolved t recs ns'

@@ -1,84 +1,46 @@
--- The words that `resolve` works with: the owner whose names are stamped, for each symbol its slot, and two sorts of chains. An owner is 0 for none and
--- f + 1 for function f. Definitions only.
-use Rattle.std.specs.Prelude.{Bool, cond, List, [], ◌∷◌, ℕ, zero, suc, ◌+◌, ◌*◌, ◌/◌, ◌%◌, get_or, set, ltb, eqb}
-use Rattle.pool.specs.Names.{Place, at, nowhere}
-use Rattle.pool.specs.declared.scope.Found.{Found}
-use Rattle.pool.specs.declared.scope.Found.TheVariants.{At, Absent}
+-- What `resolve` works with: the owner whose names are stamped, for each symbol where it was stamped last, and two sorts of chains. An owner is 0 for none
+-- and f + 1 for function f. Definitions only.
+use Rattle.std.specs.Prelude.{Bool, cond, ◌&&◌, Option, Some, None, List, [], ◌∷◌, ℕ, suc, ◌%◌, get_or, set, replicate, eqb}
+use Rattle.pool.specs.Chain.{OWNERS, no_chains}
+use Rattle.pool.specs.declared.scope.Table.{Table}
+use Rattle.pool.specs.declared.scope.Table.TheVariants.{Locals, Globals, Upvalues}
+use Rattle.pool.specs.declared.scope.Stamp.{Stamp}
+use Rattle.pool.specs.declared.scope.Scope.{Scope}
 
--- the slots of 1,024 symbols, then the owner
 abbrev pub SYMBOLS : ℕ
 SYMBOLS = 1024
 
-abbrev pub OWNER : ℕ
-OWNER = 1024
-
-abbrev pub OWNERS : ℕ
-OWNERS = 257
-
 -- "locals, globals, upvalues"
-abbrev pub LOCALS : ℕ
-LOCALS = 1
+abbrev pub table_number : Table → ℕ
+table_number Locals = 1
+table_number Globals = 2
+table_number Upvalues = 3
 
-abbrev pub GLOBALS : ℕ
-GLOBALS = 2
+abbrev pub same_table : Table → Table → Bool
+same_table a b = eqb (table_number a) (table_number b)
 
-abbrev pub UPVALUES : ℕ
-UPVALUES = 3
+abbrev pub no_scope : Scope
+no_scope = record { owner = 0; symbols = replicate SYMBOLS None; idents = no_chains 4096; inners = no_chains 257 }
 
--- what a search answers
-abbrev pub placed : Found → Place
-placed (At i) = at i
-placed Absent = nowhere
+abbrev pub owner_of : Scope → ℕ
+owner_of sc = sc.owner % OWNERS
 
-abbrev pub owner_of : List ℕ → ℕ
-owner_of ws = get_or ws OWNER 0 % OWNERS
+-- the index that a stamp has, if it is of that owner's table
+abbrev pub index_at : ℕ → Table → Option Stamp → Option ℕ
+index_at o k None = None
+index_at o k (Some x) = cond (eqb x.owner o && same_table x.table k) (Some x.index) None
 
--- a table of the owner as one number
-abbrev pub key : List ℕ → ℕ → ℕ
-key ws k = owner_of ws * 4 + k % 4
+-- a symbol without a stamp of the owner's table is not in it
+unfoldable pub index_in : Scope → Table → ℕ → Option ℕ
+index_in sc k s = index_at sc.owner k (get_or sc.symbols s None)
 
--- a slot is a key times 1,024, and the index; a symbol without a slot of the owner's table is not in it
-unfoldable pub index_in : List ℕ → ℕ → ℕ → Place
-index_in ws k s = cond (ltb s SYMBOLS) (cond (eqb (get_or ws s 0 / 1024) (key ws k)) (at (get_or ws s 0 % 1024)) nowhere) nowhere
+abbrev pub stamp_of : Scope → Table → ℕ → Stamp
+stamp_of sc k i = record { owner = sc.owner; table = k; index = i }
 
-unfoldable pub stamped : List ℕ → ℕ → ℕ → ℕ → List ℕ
-stamped ws k s i = cond (ltb s SYMBOLS) (set ws s (key ws k * 1024 + i % 1024)) ws
+unfoldable pub stamped : Scope → Table → ℕ → ℕ → Scope
+stamped sc k s i = record sc { symbols = set sc.symbols s (Some (stamp_of sc k i)) }
 
 -- a table's symbols from index i on, stamped from the last to the first: of equal ones the first is found
-unfoldable pub stamps : List ℕ → ℕ → ℕ → List ℕ → List ℕ
-stamps ws k i [] = ws
-stamps ws k i (s ∷ ss) = stamped (stamps ws k (suc i) ss) k s i
-
--- chains: a head for each owner, and for each item the next one, which is less; 0 ends a chain
-pub record Chain : Type 0 where
-  pub heads : ℕ
-  pub nexts : ℕ
-  pub items : ℕ
-
--- the Idents of each owner, by record
-abbrev pub idents : Chain
-idents = record { heads = 1025; nexts = 1796; items = 4096 }
-
--- the functions inside each owner, as owners
-abbrev pub inners : Chain
-inners = record { heads = 1282; nexts = 1539; items = 257 }
-
--- an item as the first of its owner's chain
-unfoldable pub chained : Chain → List ℕ → ℕ → ℕ → List ℕ
-chained c ws o i =
-    cond (ltb i c.items) (set (set ws (c.nexts + i) (get_or ws (c.heads + o % OWNERS) 0)) (c.heads + o % OWNERS) i) ws
-
-abbrev pub below : ℕ → ℕ → ℕ
-below link i = cond (ltb link i) link 0
-
--- the first item of the current owner, and the next one after item i
-unfoldable pub first_of : Chain → List ℕ → ℕ
-first_of c ws = get_or ws (c.heads + owner_of ws) 0
-
-unfoldable pub next_of : Chain → List ℕ → ℕ → ℕ
-next_of c ws i = cond (ltb i c.items) (below (get_or ws (c.nexts + i) 0) i) 0
-
--- the last of the numbers below n that pass a test, 0 where none does
-unfoldable pub last : (ℕ → Bool) → ℕ → ℕ
-last b zero = 0
-last b (suc n) = cond (b n) n (last b n)
+unfoldable pub stamps : Scope → Table → ℕ → List ℕ → Scope
+stamps sc k i [] = sc
+stamps sc k i (s ∷ ss) = stamped (stamps sc k (suc i) ss) k s i

@@ -1,6 +1,6 @@
 -- Constants by value. Document 01, 'The call': "constants (kind, two words: a Lit's detail with its p and q, a length or index as Int, a member, path
 -- or item name as Str; 6 Function, its number; 7 Effect, the Effect or Handler record first bringing it; 8 Yield; unused words 0)". Definitions only.
-use Rattle.std.specs.Prelude.{Bool, true, false, cond, ◌&&◌, ◌||◌, List, [], ◌∷◌, ◌++◌, ℕ, zero, suc, eqb}
+use Rattle.std.specs.Prelude.{Bool, true, false, cond, Option, None, Some, ◌&&◌, ◌||◌, List, [], ◌∷◌, ◌++◌, ℕ, zero, suc, eqb}
 use Rattle.tables.specs.Record.{Words, words}
 use Rattle.tables.specs.Forest.{Nodes, bare, node, own_tree, children}
 
@@ -65,6 +65,10 @@ find (c ∷ cs) v = cond (same c.value v) 0 (suc (find cs v))
 unfoldable pub seen : List Const → Value → Bool
 seen [] v = false
 seen (c ∷ cs) v = same c.value v || seen cs v
+
+-- where the first equal value stands, if one does
+abbrev pub found : List Const → Value → Option ℕ
+found cs v = cond (seen cs v) (Some (find cs v)) None
 
 -- the Rust's add_const: a value not seen before is added at the end
 unfoldable pub intern : List Const → Const → List Const

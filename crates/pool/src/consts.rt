@@ -1,153 +1,101 @@
 // The constants of one function: a searched table in lent words, three to an entry. The Rust's add_const and its table of ConstValues.
-ghost use Rattle.std.specs.Prelude.{◌≡◌, ◌+◌, ◌<◌, min};
-ghost use Rattle.pool.specs.Value.{same, find};
-ghost use Rattle.pool.specs.Consts.{words, at, const_of, entry, table, room, put3 as put3_of, most, added, written};
+ghost use Rattle.std.specs.Prelude.{◌≡◌};
+ghost use Rattle.pool.specs.Value.{same, found};
+ghost use Rattle.pool.specs.Consts.{words_at, constant, entry as entry_of, table, room, put3, added, written};
 
 use crate::effect::same_effect;
+use crate::entries::put;
+use crate::value::ConstValue;
+use tables::semantic::entry;
+
+// The kind of a constant that a record brings.
+pub const EFFECT: u32 = 7;
 
 // A constant's three words.
-#[derive(Clone, Copy)]
+#[derive(Clone, Copy, Debug, PartialEq, Eq)]
 pub struct ConstWords {
     pub kind: u32,
     pub low: u32,
     pub high: u32,
 }
 
-// Where a constant stands, and how many the table then counts.
-#[derive(Clone, Copy)]
-pub enum Added {
-    At { index: usize, count: usize },
-    // The lent words have no room: the value is counted and not written.
-    Full { index: usize, count: usize },
+// Where a constant stands, and how many the table then counts. A new one for which the lent words have no room is counted, and not kept.
+#[derive(Clone, Copy, Debug, PartialEq, Eq)]
+pub struct Added {
+    pub index: usize,
+    pub count: usize,
+    pub kept: bool,
 }
 
-const MOST: usize = 18446744073709551615;
-
-pub fn three(kind: u32, low: u32, high: u32) -> ConstWords
-    ensures { result ≡ words kind low high }
+// The words of entry i, 0 where the lent words end before them.
+fn words_at(consts: &[u32], i: usize) -> ConstWords
+    ensures { result ≡ words_at consts.now i }
 {
-    ConstWords { kind, low, high }
-}
-
-// Word j of entry i, 0 where the lent words end before it.
-fn const_word(consts: &[u32], i: usize, j: usize) -> u32
-    requires { j < 3 }
-    ensures { result ≡ at consts.now i j }
-{
-    if i < consts.len() {
-        let k = i * 3 + j;
-        if k < consts.len() {
-            return consts[k];
-        }
+    let at = i.saturating_mul(3);
+    ConstWords {
+        kind: entry(consts, at),
+        low: entry(consts, at.saturating_add(1)),
+        high: entry(consts, at.saturating_add(2)),
     }
-    0
 }
 
 // Whether two constants, by their words, are equal.
-fn same_words(records: &[u32], a: ConstWords, kind: u32, low: u32, high: u32) -> bool
-    ensures { result ≡ same (const_of records.now a.kind a.low a.high).value (const_of records.now kind low high).value }
+fn same_words(records: &[u32], a: ConstWords, b: ConstWords) -> bool
+    ensures { result ≡ same (constant records.now a).value (constant records.now b).value }
 {
-    if a.kind != kind {
-        return false;
+    if a.kind == EFFECT && b.kind == EFFECT {
+        return same_effect(records, a.low as usize, b.low as usize);
     }
-    if kind == 7 {
-        return same_effect(records, a.low as usize, low as usize);
-    }
-    if a.low != low {
-        return false;
-    }
-    a.high == high
+    a == b
 }
 
 // Whether entry i equals the constant of these words.
-pub fn same_const(records: &[u32], consts: &[u32], i: usize, kind: u32, low: u32, high: u32) -> bool
-    ensures { result ≡ same (entry records.now consts.now i).value (const_of records.now kind low high).value }
+pub fn same_const(records: &[u32], consts: &[u32], i: usize, words: ConstWords) -> bool
+    ensures { result ≡ same (entry_of records.now consts.now i).value (constant records.now words).value }
 {
-    let a = three(
-        const_word(consts, i, 0),
-        const_word(consts, i, 1),
-        const_word(consts, i, 2),
-    );
-    same_words(records, a, kind, low, high)
+    same_words(records, words_at(consts, i), words)
 }
 
-// The first of n entries that equals the constant of these words, or n.
-pub fn find_const(
-    records: &[u32],
-    consts: &[u32],
-    n: usize,
-    kind: u32,
-    low: u32,
-    high: u32,
-) -> usize
-    ensures { result ≡ find (table records.now consts.now n) (const_of records.now kind low high).value }
+// The first of n entries that equals the constant of these words.
+pub fn find_const(records: &[u32], consts: &[u32], n: usize, words: ConstWords) -> Option<usize>
+    ensures { result ≡ found (table records.now consts.now n) (constant records.now words).value }
 {
-    let mut i: usize = 0;
-    while i < n {
-        if same_const(records, consts, i, kind, low, high) {
-            return i;
-        }
-        // past the lent words all entries are alike
-        if consts.len() <= i {
-            return n;
-        }
-        i += 1;
-    }
-    n
+    // past the lent words all entries are alike
+    (0..n.min(consts.len() + 1)).find(|&i| same_const(records, consts, i, words))
 }
 
-// The three words of entry n; answers whether there was room for them.
-pub fn put3(consts: &mut [u32], n: usize, kind: u32, low: u32, high: u32) -> bool
+// Entry n becomes these words; answers whether there was room for them.
+fn put_const(consts: &mut [u32], n: usize, words: ConstWords) -> bool
     ensures room { result ≡ room consts.old n }
-    ensures words { consts.new ≡ put3_of consts.old n kind low high }
+    ensures words { consts.new ≡ put3 consts.old n words.kind words.low words.high }
 {
-    if n < consts.len() {
-        let i = n * 3 + 2;
-        if i < consts.len() {
-            consts[n * 3] = kind;
-            consts[n * 3 + 1] = low;
-            consts[i] = high;
-            return true;
-        }
-    }
-    false
-}
-
-// One entry more, as far as the counter goes.
-fn more(n: usize) -> usize
-    ensures { result ≡ min (n + 1) most }
-{
-    if n < MOST { n + 1 } else { n }
+    put(consts, n, [words.kind, words.low, words.high])
 }
 
 // Constants start with Null.
 pub fn start_consts(consts: &mut [u32]) -> usize
     ensures count { result ≡ 1 }
-    ensures words { consts.new ≡ put3_of consts.old 0 0 0 0 }
+    ensures words { consts.new ≡ put3 consts.old 0 0 0 0 }
 {
-    put3(consts, 0, 0, 0, 0);
+    put_const(consts, 0, ConstWords::from(ConstValue::Null));
     1
 }
 
 // An equal value's index, or the next one, where the value is then written if there is room.
-pub fn add_const(
-    records: &[u32],
-    consts: &mut [u32],
-    n: usize,
-    kind: u32,
-    low: u32,
-    high: u32,
-) -> Added
-    ensures answer { result ≡ added (table records.now consts.old n) (room consts.old n) (const_of records.now kind low high) }
-    ensures words { consts.new ≡ written records.now consts.old n kind low high }
+pub fn add_const(records: &[u32], consts: &mut [u32], n: usize, words: ConstWords) -> Added
+    ensures answer { result ≡ added (table records.now consts.old n) (room consts.old n) (constant records.now words) }
+    ensures words { consts.new ≡ written records.now consts.old n words.kind words.low words.high }
 {
-    let i = find_const(records, consts, n, kind, low, high);
-    if i < n {
-        return Added::At { index: i, count: n };
+    match find_const(records, consts, n, words) {
+        Some(index) => Added {
+            index,
+            count: n,
+            kept: true,
+        },
+        None => Added {
+            index: n,
+            count: n.saturating_add(1),
+            kept: put_const(consts, n, words),
+        },
     }
-    let count = more(n);
-    if put3(consts, n, kind, low, high) {
-        return Added::At { index: n, count };
-    }
-    Added::Full { index: n, count }
 }

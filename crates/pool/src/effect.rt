@@ -1,52 +1,48 @@
 // Effects by value: two Effect or Handler records bring the same constant when name, parameters and variadic agree.
 ghost use Rattle.std.specs.Prelude.{◌≡◌};
 ghost use Rattle.tables.specs.Forest.{first as first_of, next as next_of};
-ghost use Rattle.pool.specs.Value.{same, same_numbers, same_bool, effect_at};
+ghost use Rattle.pool.specs.Value.{same, same_numbers, effect_at};
 ghost use Rattle.pool.specs.Consts.{name_at, names_from, names_below, is_variadic};
+
+use tables::ast::{detail, first, kind, next, p, q};
+use tables::kind;
 
 // The name string that an Effect or a Handler gives: an Effect's p, else its Ident's q.
 fn effect_name(records: &[u32], r: usize) -> u32
     ensures { result ≡ name_at records.now r }
 {
-    if tables::ast::kind(records, r) == 6 {
-        return tables::ast::p(records, r);
+    if kind(records, r) == kind::EFFECT {
+        return p(records, r);
     }
-    let ident = tables::ast::first(records, r);
+    let ident = first(records, r);
     if ident == 0 {
         return 0;
     }
-    tables::ast::q(records, ident)
+    q(records, ident)
 }
 
 // The Params of an Effect or a Handler: the second child.
 fn params(records: &[u32], r: usize) -> usize
     ensures { result ≡ next_of records.now (first_of records.now r) }
 {
-    let ident = tables::ast::first(records, r);
-    tables::ast::next(records, ident)
+    next(records, first(records, r))
 }
 
 // Whether the last of the parameters is variadic.
 fn variadic(records: &[u32], params: usize) -> bool
     ensures { result ≡ is_variadic records.now params }
 {
-    if params == 0 {
-        return false;
-    }
-    tables::ast::detail(records, params) == 1
+    params != 0 && detail(records, params) == 1
 }
 
 // The first parameter; what is inside a Function is no part of the tree around it.
 fn parameter(records: &[u32], params: usize) -> usize
     ensures { names_from records.now result ≡ names_below records.now params }
 {
-    if params == 0 {
+    if params == 0 || kind(records, params) == kind::FUNCTION {
         return 0;
     }
-    if tables::ast::kind(records, params) == 30 {
-        return 0;
-    }
-    tables::ast::first(records, params)
+    first(records, params)
 }
 
 // Whether two rows of siblings have the same name strings.
@@ -56,22 +52,13 @@ fn same_names(records: &[u32], a: usize, b: usize) -> bool
     let mut x = a;
     let mut y = b;
     while x != 0 {
-        if y == 0 {
+        if y == 0 || q(records, x) != q(records, y) {
             return false;
         }
-        if tables::ast::q(records, x) != tables::ast::q(records, y) {
-            return false;
-        }
-        x = tables::ast::next(records, x);
-        y = tables::ast::next(records, y);
+        x = next(records, x);
+        y = next(records, y);
     }
     y == 0
-}
-
-fn same_bool(a: bool, b: bool) -> bool
-    ensures { result ≡ same_bool a b }
-{
-    if a { b } else { !b }
 }
 
 // Whether two records bring the same effect.
@@ -80,10 +67,7 @@ pub fn same_effect(records: &[u32], a: usize, b: usize) -> bool
 {
     let c = params(records, a);
     let d = params(records, b);
-    if effect_name(records, a) == effect_name(records, b) {
-        if same_bool(variadic(records, c), variadic(records, d)) {
-            return same_names(records, parameter(records, c), parameter(records, d));
-        }
-    }
-    false
+    effect_name(records, a) == effect_name(records, b)
+        && variadic(records, c) == variadic(records, d)
+        && same_names(records, parameter(records, c), parameter(records, d))
 }

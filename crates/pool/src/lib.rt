@@ -1,8 +1,10 @@
 // The tables between: constants and names, what the generator looks things up in.
 #![tactic(auto)]
 
+mod chain;
 pub mod consts;
 pub mod effect;
+pub mod entries;
 pub mod lookup;
 mod names;
 pub mod notes;
@@ -10,4 +12,3 @@ pub mod resolve;
 mod scope;
 pub mod spans;
 pub mod value;
-mod word;

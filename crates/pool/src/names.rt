@@ -1,12 +1,13 @@
 // The names of one function, made as the Rust's gen_function_code makes its three maps, while its parent's names are the stamped ones.
 ghost use Rattle.std.specs.Prelude.{◌≡◌, ◌+◌, ◌<◌, length};
 ghost use Rattle.pool.specs.Scope.{index_in, stamps};
+ghost use Rattle.pool.specs.declared.scope.Table.TheVariants.{Locals, Upvalues};
 ghost use Rattle.pool.specs.NameWords.{upvalue_or_local, captured_as, slot_of, entry_for, chosen, entries_laid, span_of};
 ghost use Rattle.pool.specs.NameSteps.{class_in, symbols_at, entries_named, spans_named, stamped_names};
 
-use crate::consts::put3;
-use crate::lookup::{LocalLookup, UpvalueLookup, find_local, find_upvalue, is_global};
-use crate::scope::{GLOBALS, LOCALS, Scope, UPVALUES, set_owner, stamp};
+use crate::entries::put;
+use crate::lookup::{find_local, find_upvalue, is_global};
+use crate::scope::{Scope, Table};
 use crate::spans::{Span, put_span, span_of};
 use opcode::index::{LocalNameId, UpvalueNameId};
 use tables::semantic::entry;
@@ -23,24 +24,24 @@ pub enum Class {
 // The table that a symbol goes to, and its entry's capture and index.
 #[derive(Clone, Copy)]
 pub struct Slot {
-    pub table: u32,
+    pub table: Table,
     pub capture: u32,
     pub index: u32,
 }
 
 fn upvalue_or_local(scope: &Scope, symbol: u32) -> Class
-    ensures { result ≡ upvalue_or_local (index_in scope.now 3 symbol) }
+    ensures { result ≡ upvalue_or_local (index_in scope.now Upvalues symbol) }
 {
-    let UpvalueLookup::Found(id) = find_upvalue(scope, symbol) else {
+    let Some(id) = find_upvalue(scope, symbol) else {
         return Class::Local;
     };
     Class::CapturedUpvalue(id)
 }
 
 fn captured(scope: &Scope, symbol: u32) -> Class
-    ensures { result ≡ captured_as (index_in scope.now 1 symbol) (index_in scope.now 3 symbol) }
+    ensures { result ≡ captured_as (index_in scope.now Locals symbol) (index_in scope.now Upvalues symbol) }
 {
-    let LocalLookup::Found(id) = find_local(scope, symbol) else {
+    let Some(id) = find_local(scope, symbol) else {
         return upvalue_or_local(scope, symbol);
     };
     Class::CapturedLocal(id)
@@ -60,22 +61,22 @@ fn slot_of(class: Class) -> Slot
 {
     match class {
         Class::Local => Slot {
-            table: LOCALS,
+            table: Table::Locals,
             capture: 0,
             index: 0,
         },
         Class::Global => Slot {
-            table: GLOBALS,
+            table: Table::Globals,
             capture: 0,
             index: 0,
         },
         Class::CapturedLocal(id) => Slot {
-            table: UPVALUES,
+            table: Table::Upvalues,
             capture: 1,
             index: id.0,
         },
         Class::CapturedUpvalue(id) => Slot {
-            table: UPVALUES,
+            table: Table::Upvalues,
             capture: 2,
             index: id.0,
         },
@@ -87,7 +88,7 @@ fn step(
     symbols: &[u32],
     scope: &Scope,
     entries: &mut [u32],
-    table: u32,
+    table: Table,
     n: usize,
     symbol: u32,
 ) -> usize
@@ -98,7 +99,7 @@ fn step(
 {
     let slot = slot_of(classify(symbols, scope, symbol));
     if slot.table == table {
-        put3(entries, n, symbol, slot.capture, slot.index);
+        put(entries, n, [symbol, slot.capture, slot.index]);
         return n + 1;
     }
     n
@@ -110,7 +111,7 @@ fn pass(
     share: &[u32],
     scope: &Scope,
     entries: &mut [u32],
-    table: u32,
+    table: Table,
     n: usize,
 ) -> usize
     requires { n + length share.now < 8589934592 }
@@ -119,10 +120,8 @@ fn pass(
     ensures place { result ≡ n + length (chosen table (class_in symbols.now scope.now) share.now) }
 {
     let mut at = n;
-    let mut i: usize = 0;
-    while i < share.len() {
-        at = step(symbols, scope, entries, table, at, share[i]);
-        i += 1;
+    for symbol in share {
+        at = step(symbols, scope, entries, table, at, *symbol);
     }
     at
 }
@@ -133,7 +132,7 @@ pub fn name(
     share: &[u32],
     scope: &Scope,
     entries: &mut [u32],
-    spans: &mut [u32],
+    spans: &mut [Span],
     f: usize,
 )
     ensures words { entries.new ≡ entries_named (class_in symbols.now scope.now) share.now
@@ -145,9 +144,9 @@ pub fn name(
     if share.len() <= 1024 {
         let start = span_of(spans, f).start;
         let n = start as usize;
-        let globals = pass(symbols, share, scope, entries, LOCALS, n);
-        let upvalues = pass(symbols, share, scope, entries, GLOBALS, globals);
-        let end = pass(symbols, share, scope, entries, UPVALUES, upvalues);
+        let globals = pass(symbols, share, scope, entries, Table::Locals, n);
+        let upvalues = pass(symbols, share, scope, entries, Table::Globals, globals);
+        let end = pass(symbols, share, scope, entries, Table::Upvalues, upvalues);
         put_span(
             spans,
             f,
@@ -162,15 +161,13 @@ pub fn name(
 }
 
 // The entries from place n on, count of them, are the owner's names in this table; of equal symbols the first counts.
-fn stamp_table(scope: &mut Scope, entries: &[u32], table: u32, n: usize, count: u32)
+fn stamp_table(scope: &mut Scope, entries: &[u32], table: Table, n: usize, count: u32)
     requires { n < 17179869184 }
     ensures { scope.new ≡ stamps scope.old table 0 (symbols_at entries.now n count) }
 {
-    let mut i = count;
-    while 0 < i {
-        i -= 1;
+    for i in (0..count).rev() {
         let at = n + i as usize;
-        stamp(scope, table, entry(entries, at * 3), i);
+        scope.stamp(table, entry(entries, at * 3), i);
     }
 }
 
@@ -181,8 +178,8 @@ pub fn stamp_names(scope: &mut Scope, entries: &[u32], span: Span, owner: u32)
     let locals = span.start as usize;
     let globals = locals + span.locals as usize;
     let upvalues = globals + span.globals as usize;
-    set_owner(scope, owner);
-    stamp_table(scope, entries, LOCALS, locals, span.locals);
-    stamp_table(scope, entries, GLOBALS, globals, span.globals);
-    stamp_table(scope, entries, UPVALUES, upvalues, span.upvalues);
+    scope.owner = owner;
+    stamp_table(scope, entries, Table::Locals, locals, span.locals);
+    stamp_table(scope, entries, Table::Globals, globals, span.globals);
+    stamp_table(scope, entries, Table::Upvalues, upvalues, span.upvalues);
 }

@@ -5,9 +5,8 @@ ghost use Rattle.pool.specs.NameWords.{access_of};
 ghost use Rattle.pool.specs.Notes.{earlier_noted, load_of, store_of, load_noted, store_noted, load_note, store_note, note_earlier, note_ident};
 
 use crate::lookup::Access;
-use crate::word::wide;
 use opcode::index::{GlobalNameId, LocalNameId, UpvalueNameId};
-use tables::refusal::{RunRule, run_number};
+use tables::refusal::RunRule;
 
 pub const SIZE: usize = 12288;
 
@@ -36,54 +35,54 @@ const NO_STORE: u32 = 12;
 pub fn earlier(notes: &Notes, r: usize) -> usize
     ensures { result ≡ earlier_noted notes.now r }
 {
-    if r < RECORDS { wide(notes[r]) } else { 0 }
+    if r < RECORDS { notes[r] as usize } else { 0 }
 }
 
 // What a noted load comes to.
-fn load_access(note: u32) -> Access
+fn load_access(note: u32) -> Result<Access, RunRule>
     ensures { access_of result ≡ load_of note }
 {
     let index = note % 4096;
     match note / 4096 {
-        LOAD_LOCAL => Access::Local(LocalNameId(index)),
-        LOAD_GLOBAL => Access::Global(GlobalNameId(index)),
-        LOAD_UPVALUE => Access::Upvalue(UpvalueNameId(index)),
-        NO_LOAD => Access::Missing(RunRule::Load),
-        _ => Access::Missing(RunRule::Reference),
+        LOAD_LOCAL => Ok(Access::Local(LocalNameId(index))),
+        LOAD_GLOBAL => Ok(Access::Global(GlobalNameId(index))),
+        LOAD_UPVALUE => Ok(Access::Upvalue(UpvalueNameId(index))),
+        NO_LOAD => Err(RunRule::Load),
+        _ => Err(RunRule::Reference),
     }
 }
 
 // What a noted store comes to; never an upvalue.
-fn store_access(note: u32) -> Access
+fn store_access(note: u32) -> Result<Access, RunRule>
     ensures { access_of result ≡ store_of note }
 {
     let index = note % 4096;
     match note / 4096 {
-        STORE_LOCAL => Access::Local(LocalNameId(index)),
-        STORE_GLOBAL => Access::Global(GlobalNameId(index)),
-        NO_STORE => Access::Missing(RunRule::Store),
-        _ => Access::Missing(RunRule::Reference),
+        STORE_LOCAL => Ok(Access::Local(LocalNameId(index))),
+        STORE_GLOBAL => Ok(Access::Global(GlobalNameId(index))),
+        NO_STORE => Err(RunRule::Store),
+        _ => Err(RunRule::Reference),
     }
 }
 
 // What a load of the Ident at record r comes to.
-pub fn load_of(notes: &Notes, r: usize) -> Access
+pub fn load_of(notes: &Notes, r: usize) -> Result<Access, RunRule>
     ensures { access_of result ≡ load_noted notes.now r }
 {
     if r < RECORDS {
         return load_access(notes[LOADS + r]);
     }
-    Access::Missing(RunRule::Reference)
+    Err(RunRule::Reference)
 }
 
 // What a store to the Ident at record r comes to.
-pub fn store_of(notes: &Notes, r: usize) -> Access
+pub fn store_of(notes: &Notes, r: usize) -> Result<Access, RunRule>
     ensures { access_of result ≡ store_noted notes.now r }
 {
     if r < RECORDS {
         return store_access(notes[STORES + r]);
     }
-    Access::Missing(RunRule::Reference)
+    Err(RunRule::Reference)
 }
 
 fn word(code: u32, index: u32) -> u32
@@ -93,25 +92,25 @@ fn word(code: u32, index: u32) -> u32
     code * 4096 + index % 4096
 }
 
-fn load_word(access: Access) -> u32
+fn load_word(access: Result<Access, RunRule>) -> u32
     ensures { result ≡ load_note (access_of access) }
 {
     match access {
-        Access::Local(id) => word(LOAD_LOCAL, id.0),
-        Access::Global(id) => word(LOAD_GLOBAL, id.0),
-        Access::Upvalue(id) => word(LOAD_UPVALUE, id.0),
-        Access::Missing(rule) => word(run_number(rule), 0),
+        Ok(Access::Local(id)) => word(LOAD_LOCAL, id.0),
+        Ok(Access::Global(id)) => word(LOAD_GLOBAL, id.0),
+        Ok(Access::Upvalue(id)) => word(LOAD_UPVALUE, id.0),
+        Err(rule) => word(rule.number(), 0),
     }
 }
 
-fn store_word(access: Access) -> u32
+fn store_word(access: Result<Access, RunRule>) -> u32
     ensures { result ≡ store_note (access_of access) }
 {
     match access {
-        Access::Local(id) => word(STORE_LOCAL, id.0),
-        Access::Global(id) => word(STORE_GLOBAL, id.0),
-        Access::Upvalue(_) => word(NO_STORE, 0),
-        Access::Missing(rule) => word(run_number(rule), 0),
+        Ok(Access::Local(id)) => word(STORE_LOCAL, id.0),
+        Ok(Access::Global(id)) => word(STORE_GLOBAL, id.0),
+        Ok(Access::Upvalue(_)) => word(NO_STORE, 0),
+        Err(rule) => word(rule.number(), 0),
     }
 }
 
@@ -127,7 +126,12 @@ pub fn note_earlier(notes: &mut Notes, sibling: usize, r: usize)
 }
 
 // What a load and a store of the Ident at record r come to.
-pub fn note_ident(notes: &mut Notes, r: usize, load: Access, store: Access)
+pub fn note_ident(
+    notes: &mut Notes,
+    r: usize,
+    load: Result<Access, RunRule>,
+    store: Result<Access, RunRule>,
+)
     ensures { notes.new ≡ note_ident notes.old r (load_note (access_of load)) (store_note (access_of store)) }
 {
     if r < RECORDS {

@@ -9,15 +9,12 @@ ghost use Rattle.pool.specs.NameSteps.{parent_owner};
 ghost use Rattle.pool.specs.ResolveSteps.{owner_inside, share_from, Passed, Begun, NamesInners, NotesIdents};
 ghost use Rattle.pool.specs.Resolve.{Resolves};
 
+use crate::chain::{Chain, OWNERS};
 use crate::lookup::{load, store};
 use crate::names::{name, stamp_names};
 use crate::notes::{Notes, note_earlier, note_ident};
-use crate::scope;
-use crate::scope::{
-    Scope, chain_ident, chain_inner, first_ident, first_inner, next_ident, next_inner,
-};
+use crate::scope::{SYMBOLS, Scope};
 use crate::spans::{Span, put_span, span_of};
-use crate::word::wide_owner;
 use tables::ast::{first, kind, next, p, size};
 use tables::kind;
 use tables::semantic::{member_count, pairs, parent, share_start};
@@ -58,16 +55,15 @@ fn is_ident(recs: &[u32], r: usize) -> bool
 }
 
 // One pass over the records, whose links go forward: each record hands its owner to its links and itself to its later sibling, and an Ident is chained to its owner.
-fn records(recs: &[u32], notes: &mut Notes, scope: &mut Scope)
-    ensures { Passed recs.now notes.old scope.old notes.new scope.new }
+fn records(recs: &[u32], notes: &mut Notes, idents: &mut Chain<4096>)
+    ensures { Passed recs.now notes.old idents.old notes.new idents.new }
 {
     let n = size(recs);
     if 4096 < n {
         return;
     }
     let mut owners = [0u16; 4096];
-    let mut r: usize = 0;
-    while r < n {
+    for r in 0..n {
         let owner = owners[r];
         let child = first(recs, r);
         let sibling = next(recs, r);
@@ -75,9 +71,8 @@ fn records(recs: &[u32], notes: &mut Notes, scope: &mut Scope)
         own(&mut owners, sibling, owner);
         note_earlier(notes, sibling, r);
         if is_ident(recs, r) {
-            chain_ident(scope, wide_owner(owner), r);
+            idents.push(owner as usize, r);
         }
-        r += 1;
     }
 }
 
@@ -90,15 +85,13 @@ fn parent_owner(functions: &[u32], f: usize) -> usize
 }
 
 // One pass over the functions: where each one's names begin, and the functions inside each.
-fn functions_inside(functions: &[u32], spans: &mut [u32], scope: &mut Scope)
+fn functions_inside(functions: &[u32], spans: &mut [Span], inners: &mut Chain<257>)
     requires few_functions { pairs_of functions.now ≤ 256 }
     requires few_members { share_start functions.now (pairs_of functions.now) ≤ 1024 }
-    ensures { Begun functions.now spans.old scope.old spans.new scope.new }
+    ensures { Begun functions.now spans.old inners.old spans.new inners.new }
 {
-    let n = pairs(functions);
     let mut start: u32 = 0;
-    let mut f: usize = 0;
-    while f < n {
+    for f in 0..pairs(functions) {
         put_span(
             spans,
             f,
@@ -109,14 +102,13 @@ fn functions_inside(functions: &[u32], spans: &mut [u32], scope: &mut Scope)
                 upvalues: 0,
             },
         );
-        chain_inner(scope, parent_owner(functions, f), f + 1);
+        inners.push(parent_owner(functions, f), f + 1);
         start += member_count(functions, f);
-        f += 1;
     }
 }
 
 // The symbols of function f.
-fn share_of<'a>(functions: &[u32], members: &'a [u32], spans: &[u32], f: usize) -> &'a [u32]
+fn share_of<'a>(functions: &[u32], members: &'a [u32], spans: &[Span], f: usize) -> &'a [u32]
     ensures { result.now ≡ share_from functions.now members.now (span_of spans.now f).start f }
 {
     let from = span_of(spans, f).start as usize;
@@ -135,17 +127,17 @@ fn name_inners(
     members: &[u32],
     scope: &Scope,
     entries: &mut [u32],
-    spans: &mut [u32],
+    spans: &mut [Span],
 )
     ensures { NamesInners symbols.now functions.now members.now scope.now
         entries.old spans.old entries.new spans.new }
 {
-    let mut inner = first_inner(scope);
+    let mut inner = scope.inners.first(scope.owner);
     while inner != 0 {
         let f = inner - 1;
         let share = share_of(functions, members, spans, f);
         name(symbols, share, scope, entries, spans, f);
-        inner = next_inner(scope, inner);
+        inner = scope.inners.next(inner);
     }
 }
 
@@ -154,7 +146,7 @@ fn note_idents(recs: &[u32], symbols: &[u32], references: &[u32], scope: &Scope,
     ensures { NotesIdents recs.now symbols.now references.now scope.now
         notes.old notes.new }
 {
-    let mut r = first_ident(scope);
+    let mut r = scope.idents.first(scope.owner);
     while r != 0 {
         let reference = p(recs, r);
         note_ident(
@@ -163,7 +155,7 @@ fn note_idents(recs: &[u32], symbols: &[u32], references: &[u32], scope: &Scope,
             load(references, scope, reference),
             store(symbols, references, scope, reference),
         );
-        r = next_ident(scope, r);
+        r = scope.idents.next(r);
     }
 }
 
@@ -171,14 +163,7 @@ fn note_idents(recs: &[u32], symbols: &[u32], references: &[u32], scope: &Scope,
 fn under_limit(members: &[u32]) -> bool
     ensures { result ≡ under 1024 members.now }
 {
-    let mut i: usize = 0;
-    while i < members.len() {
-        if 1024 <= members[i] {
-            return false;
-        }
-        i += 1;
-    }
-    true
+    members.iter().all(|m| *m < 1024)
 }
 
 // Whether there is room for all names, and slots hold them.
@@ -196,7 +181,7 @@ fn fits(functions: &[u32], members: &[u32], entries: usize, spans: usize) -> boo
     if entries < size * 3 {
         return false;
     }
-    if spans < n * 4 {
+    if spans < n {
         return false;
     }
     if share_start(functions, n) != size {
@@ -213,23 +198,32 @@ pub fn resolve(
     functions: &[u32],
     members: &[u32],
     entries: &mut [u32],
-    spans: &mut [u32],
+    spans: &mut [Span],
     notes: &mut Notes,
 )
     ensures { Resolves (semantic symbols.now references.now functions.now members.now) recs.now
         entries.old spans.old notes.old entries.new spans.new notes.new }
 {
     if fits(functions, members, entries.len(), spans.len()) {
-        let mut scope = [0u32; scope::SIZE];
-        records(recs, notes, &mut scope);
-        functions_inside(functions, spans, &mut scope);
+        // made in its place, since a function that answers one would copy it
+        let mut scope = Scope {
+            owner: 0,
+            symbols: [None; SYMBOLS],
+            idents: Chain {
+                heads: [0; OWNERS],
+                nexts: [0; 4096],
+            },
+            inners: Chain {
+                heads: [0; OWNERS],
+                nexts: [0; 257],
+            },
+        };
+        records(recs, notes, &mut scope.idents);
+        functions_inside(functions, spans, &mut scope.inners);
         name_inners(symbols, functions, members, &scope, entries, spans);
-        let n = pairs(functions) as u32;
-        let mut owner: u32 = 0;
-        while owner < n {
-            let span = span_of(spans, owner as usize);
-            owner += 1;
-            stamp_names(&mut scope, entries, span, owner);
+        for f in 0..pairs(functions) {
+            let span = span_of(spans, f);
+            stamp_names(&mut scope, entries, span, f as u32 + 1);
             note_idents(recs, symbols, references, &scope, notes);
             name_inners(symbols, functions, members, &scope, entries, spans);
         }

@@ -1,10 +1,8 @@
-// Where each function's names stand: its first entry, and how many are locals, then globals, then upvalues. Four words to a function.
-ghost use Rattle.std.specs.Prelude.{◌≡◌};
-ghost use Rattle.pool.specs.NameWords.{span_of, put_span};
+// Where each function's names stand: its first entry, and how many are locals, then globals, then upvalues.
+ghost use Rattle.std.specs.Prelude.{◌≡◌, set};
+ghost use Rattle.pool.specs.NameWords.{span_of};
 
-use tables::semantic::entry;
-
-#[derive(Clone, Copy)]
+#[derive(Clone, Copy, Debug, Default, PartialEq, Eq)]
 pub struct Span {
     pub start: u32,
     pub locals: u32,
@@ -12,42 +10,18 @@ pub struct Span {
     pub upvalues: u32,
 }
 
-// The span of function f, empty where there is none.
-pub fn span_of(spans: &[u32], f: usize) -> Span
+// The span of function f, without names where there is none.
+pub fn span_of(spans: &[Span], f: usize) -> Span
     ensures { result ≡ span_of spans.now f }
 {
-    if f < spans.len() {
-        let i = f * 4;
-        let start = entry(spans, i);
-        let locals = entry(spans, i + 1);
-        let globals = entry(spans, i + 2);
-        let upvalues = entry(spans, i + 3);
-        return Span {
-            start,
-            locals,
-            globals,
-            upvalues,
-        };
-    }
-    Span {
-        start: 0,
-        locals: 0,
-        globals: 0,
-        upvalues: 0,
-    }
+    spans.get(f).copied().unwrap_or_default()
 }
 
 // The span of function f is written, if it has room.
-pub fn put_span(spans: &mut [u32], f: usize, span: Span)
-    ensures { spans.new ≡ put_span spans.old f span }
+pub fn put_span(spans: &mut [Span], f: usize, span: Span)
+    ensures { spans.new ≡ set spans.old f span }
 {
     if f < spans.len() {
-        let i = f * 4;
-        if i + 3 < spans.len() {
-            spans[i] = span.start;
-            spans[i + 1] = span.locals;
-            spans[i + 2] = span.globals;
-            spans[i + 3] = span.upvalues;
-        }
+        spans[f] = span;
     }
 }

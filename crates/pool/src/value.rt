@@ -2,7 +2,7 @@
 ghost use Rattle.std.specs.Prelude.{◌≡◌};
 ghost use Rattle.pool.specs.ConstValues.{words_of, lit_of};
 
-use crate::consts::{ConstWords, three};
+use crate::consts::{ConstWords, EFFECT};
 use opcode::index::FunctionId;
 
 #[derive(Clone, Copy)]
@@ -19,33 +19,44 @@ pub enum ConstValue {
     Yield,
 }
 
-// A constant's three words.
-pub fn const_words(value: ConstValue) -> ConstWords
-    ensures { result ≡ words_of value }
-{
-    match value {
-        ConstValue::Null => three(0, 0, 0),
-        ConstValue::Bool(v) => three(1, v, 0),
-        ConstValue::Int(low, high) => three(2, low, high),
-        ConstValue::Float(low, high) => three(3, low, high),
-        ConstValue::Str(v) => three(4, v, 0),
-        ConstValue::Bytes(v) => three(5, v, 0),
-        ConstValue::Function(id) => three(6, id.0, 0),
-        ConstValue::Effect(r) => three(7, r, 0),
-        ConstValue::Yield => three(8, 0, 0),
+impl From<ConstValue> for ConstWords {
+    ghost from_gives = { λ value words. words ≡ words_of value };
+
+    fn from(value: ConstValue) -> ConstWords {
+        let (kind, low, high) = match value {
+            ConstValue::Null => (0, 0, 0),
+            ConstValue::Bool(v) => (1, v, 0),
+            ConstValue::Int(low, high) => (2, low, high),
+            ConstValue::Float(low, high) => (3, low, high),
+            ConstValue::Str(v) => (4, v, 0),
+            ConstValue::Bytes(v) => (5, v, 0),
+            ConstValue::Function(id) => (6, id.0, 0),
+            ConstValue::Effect(r) => (EFFECT, r, 0),
+            ConstValue::Yield => (8, 0, 0),
+        };
+        ConstWords { kind, low, high }
     }
 }
 
-// From<LitKind>: a literal by its detail and its two words.
-pub fn lit_value(detail: u32, p: u32, q: u32) -> ConstValue
-    ensures { result ≡ lit_of detail p q }
-{
-    match detail {
-        0 => ConstValue::Null,
-        1 => ConstValue::Bool(p),
-        2 => ConstValue::Int(p, q),
-        3 => ConstValue::Float(p, q),
-        4 => ConstValue::Str(p),
-        _ => ConstValue::Bytes(p),
+// The Rust's LitKind in a record's words: its detail, and the two that hold its value.
+#[derive(Clone, Copy)]
+pub struct LitKind {
+    pub detail: u32,
+    pub p: u32,
+    pub q: u32,
+}
+
+impl From<LitKind> for ConstValue {
+    ghost from_gives = { λ lit value. value ≡ lit_of lit.detail lit.p lit.q };
+
+    fn from(lit: LitKind) -> ConstValue {
+        match lit.detail {
+            0 => ConstValue::Null,
+            1 => ConstValue::Bool(lit.p),
+            2 => ConstValue::Int(lit.p, lit.q),
+            3 => ConstValue::Float(lit.p, lit.q),
+            4 => ConstValue::Str(lit.p),
+            _ => ConstValue::Bytes(lit.p),
+        }
     }
 }

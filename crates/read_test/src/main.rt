@@ -1,50 +1,19 @@
 // Replays genlist's texts, one after another between lines `====`: prints the line that can't be read, or the words of the tables.
 #![tactic(auto)]
 
-use listing::read::{Reading, read};
+use listing::read::{Lent, read};
+use std::fmt::Display;
+use std::io;
 
-const STDIN_FILENO: i32 = 0;
-
-const STDOUT_FILENO: i32 = 1;
-
-fn print(n: u64) {
-    io::print_decimal(STDOUT_FILENO, n);
-    io::write_all(STDOUT_FILENO, b" ");
-}
-
-fn wide(x: u32) -> u64 {
-    x as u64
-}
-
-fn wide_byte(x: u8) -> u64 {
-    x as u64
-}
-
-fn print_words(words: &[u32], count: usize) {
-    for k in 0..words.len() {
-        if k < count {
-            print(wide(words[k]));
-        }
+// The items that a table holds, with a space behind each.
+fn print_items<T: Display>(rt: &impl Print, items: &[T], count: usize) -> io::Result<()> {
+    for item in items.iter().take(count) {
+        print!(rt; "{item} ")?;
     }
-    io::write_all(STDOUT_FILENO, b"\n");
+    println!(rt)
 }
 
-fn print_bytes(bytes: &[u8], count: usize) {
-    for k in 0..bytes.len() {
-        if k < count {
-            print(wide_byte(bytes[k]));
-        }
-    }
-    io::write_all(STDOUT_FILENO, b"\n");
-}
-
-fn show_input(line: usize) {
-    io::write_all(STDOUT_FILENO, b"input ");
-    io::print_decimal(STDOUT_FILENO, line as u64);
-    io::write_all(STDOUT_FILENO, b"\n");
-}
-
-fn show(text: &[u8]) {
+fn show(rt: &impl Print, text: &str) -> io::Result<()> {
     let mut strings = [0u32; 280];
     let mut bytes = [0u8; 4096];
     let mut symbols = [0u32; 280];
@@ -52,78 +21,36 @@ fn show(text: &[u8]) {
     let mut functions = [0u32; 280];
     let mut members = [0u32; 140];
     let mut records = [0u32; 1120];
-    let r = read(
-        text,
-        &mut strings,
-        &mut bytes,
-        &mut symbols,
-        &mut references,
-        &mut functions,
-        &mut members,
-        &mut records,
-    );
-    match r {
-        Reading::Input(n) => show_input(n),
-        Reading::Tables(s) => {
-            print_words(&strings, s.strings);
-            print_bytes(&bytes, s.bytes);
-            print_words(&symbols, s.symbols);
-            print_words(&references, s.references);
-            print_words(&functions, s.functions);
-            print_words(&members, s.members);
-            print_words(&records, s.records);
+    let mut lent = Lent {
+        strings: &mut strings,
+        bytes: &mut bytes,
+        symbols: &mut symbols,
+        references: &mut references,
+        functions: &mut functions,
+        members: &mut members,
+        records: &mut records,
+    };
+    match read(text.as_bytes(), &mut lent) {
+        Err(unread) => {
+            let line = unread.line;
+            println!(rt; "input {line}")
+        }
+        Ok(s) => {
+            print_items(rt, &strings, s.strings)?;
+            print_items(rt, &bytes, s.bytes)?;
+            print_items(rt, &symbols, s.symbols)?;
+            print_items(rt, &references, s.references)?;
+            print_items(rt, &functions, s.functions)?;
+            print_items(rt, &members, s.members)?;
+            print_items(rt, &records, s.records)
         }
     }
 }
 
-// Whether the line `====` begins at a place.
-fn is_cut(text: &[u8], at: usize) -> bool {
-    if text.len() <= at {
-        return false;
+fn main(rt: HostRuntime) -> io::Result<()> {
+    let text = io::read_to_string(rt.alloc(), rt.reader())?;
+    for part in text.split("====\n") {
+        show(&rt, part)?;
     }
-    if text.len() - at < 5 {
-        return false;
-    }
-    if text[at] == b'=' {
-        if text[at + 3] == b'=' {
-            return text[at + 4] == b'\n';
-        }
-    }
-    false
-}
-
-fn after_cut(text: &[u8], at: usize) -> usize {
-    if at < text.len() {
-        if 5 <= text.len() - at {
-            return at + 5;
-        }
-    }
-    at
-}
-
-fn part(text: &[u8], from: usize, end: usize) -> &[u8] {
-    if from <= end {
-        if end <= text.len() {
-            return &text[from..end];
-        }
-    }
-    let none: usize = 0;
-    &text[none..none]
-}
-
-fn replay(text: &[u8]) {
-    let mut from: usize = 0;
-    for at in 0..text.len() {
-        if is_cut(text, at) {
-            show(part(text, from, at));
-            from = after_cut(text, at);
-        }
-    }
-    show(part(text, from, text.len()));
-}
-
-fn main() {
-    let mut text = io::large_buffer();
-    let length = io::read_full(STDIN_FILENO, &mut text);
-    replay(&text[..length]);
+    Ok(())
 }

@@ -1,93 +1,123 @@
 // A case in words: first its numbers, of which the first seven are the lengths of tables 1 to 7, then the words of these tables.
-ghost use Rattle.std.specs.Prelude.{◌≡◌, true, ◌+◌, ◌<◌, min, length, get_or, take, drop};
-ghost use Rattle.replay.specs.Case.{start as start_of, table as table_of, are_bytes, laid};
+ghost use Rattle.std.specs.Prelude.{◌≡◌, ◌+◌, ◌<◌, min, length, get_or, take, drop, is_some, IfOk, IfSome};
+ghost use Rattle.std.specs.Iterator.{at_most};
+ghost use Rattle.replay.specs.Case.{start as start_of, table as table_of, are_bytes};
 
+use std::alloc::{AllocError, Global};
 use tables::semantic::entry;
 
 // The greatest byte.
 const BYTE: u32 = 255;
 
-// The first words, all of them where there are no more.
-pub fn front(words: &[u32], count: usize) -> &[u32]
-    ensures { result.now ≡ take count words.now }
+// A case has so many tables.
+const TABLES: usize = 7;
+
+// The first items, all of them where there are no more.
+pub fn front<T>(items: &[T], count: usize) -> &[T]
+    ensures { result.now ≡ take count items.now }
 {
-    if count < words.len() {
-        return &words[..count];
-    }
-    words
+    &items[..count.min(items.len())]
 }
 
-pub fn front_bytes(bytes: &[u8], count: usize) -> &[u8]
-    ensures { result.now ≡ take count bytes.now }
+// The items behind the first ones, none where there are no more.
+pub fn rest<T>(items: &[T], count: usize) -> &[T]
+    ensures { result.now ≡ drop count items.now }
 {
-    if count < bytes.len() {
-        return &bytes[..count];
-    }
-    bytes
-}
-
-// The words behind the first ones, none where there are no more.
-pub fn rest(words: &[u32], count: usize) -> &[u32]
-    ensures { result.now ≡ drop count words.now }
-{
-    let end = words.len();
+    let end = items.len();
     if count < end {
-        return &words[count..];
+        return &items[count..];
     }
-    &words[end..]
+    &items[end..]
 }
 
-// Number i of a case, 0 where there is none.
-pub fn number(case: &[u32], i: usize) -> usize
-    ensures answer { result ≡ get_or case.now i 0 }
-    ensures word { result < 4294967296 }
-{
-    entry(case, i) as usize
+// The words from a case's first one on, and how many numbers it has.
+#[derive(Clone, Copy)]
+pub struct Case<'a> {
+    pub words: &'a [u32],
+    pub numbers: usize,
 }
 
-fn lesser(a: usize, b: usize) -> usize
-    ensures { result ≡ min a b }
-{
-    if a < b { a } else { b }
-}
-
-// Where table k + 1 of a case with so many numbers begins, at most one past the words' end. Table 8 would be the next case.
-pub fn start(case: &[u32], numbers: usize, k: usize) -> usize
-    ensures { result ≡ min (start_of case.now numbers k) (length case.now + 1) }
-{
-    let end = case.len() + 1;
-    let mut at = lesser(numbers, end);
-    let mut j: usize = 0;
-    while j < k {
-        at = lesser(at + number(case, j), end);
-        j += 1;
+impl<'a> Case<'a> {
+    // Number i, 0 where there is none.
+    pub fn number(self, i: usize) -> usize
+        ensures answer { result ≡ get_or self.entry.words.now i 0 }
+        ensures word { result < 4294967296 }
+    {
+        entry(self.words, i) as usize
     }
-    at
-}
 
-// Table k + 1 of a case.
-pub fn table(case: &[u32], numbers: usize, k: usize) -> &[u32]
-    ensures { result.now ≡ table_of case.now numbers k }
-{
-    front(rest(case, start(case, numbers, k)), number(case, k))
-}
-
-// The words as bytes, where each is one and there is room; else what is written is free.
-pub fn narrow(words: &[u32], bytes: &mut [u8]) -> bool
-    ensures answer { result ≡ are_bytes words.now (length bytes.old) }
-    ensures written { result ≡ true → bytes.new ≡ laid words.now bytes.old }
-{
-    let mut k: usize = 0;
-    while k < words.len() {
-        if bytes.len() <= k {
-            return false;
+    // Where table k + 1 begins, at most one past the words' end. Table 8 would be the next case.
+    pub fn start(self, k: usize) -> usize
+        ensures { result ≡ min (start_of self.entry.words.now self.entry.numbers k) (length self.entry.words.now + 1) }
+    {
+        let end = self.words.len() + 1;
+        let mut at = end.min(self.numbers);
+        for j in 0..k {
+            at = end.min(at + self.number(j));
         }
-        let value = words[k];
+        at
+    }
+
+    // Table k + 1.
+    pub fn table(self, k: usize) -> &'a [u32]
+        ensures { result.now ≡ table_of self.entry.words.now self.entry.numbers k }
+    {
+        front(rest(self.words, self.start(k)), self.number(k))
+    }
+}
+
+// The cases that stand one behind the other in words.
+#[derive(Drop)]
+pub struct Cases<'a> {
+    words: &'a [u32],
+    numbers: usize,
+}
+
+impl<'a> Cases<'a> {
+    pub fn new(words: &'a [u32], numbers: usize) -> Self {
+        Cases { words, numbers }
+    }
+}
+
+// The last one is none where it is not whole.
+impl<'a> Iterator for Cases<'a> {
+    type Item = Option<Case<'a>>;
+
+    ghost remaining = { λ s. at_most (length s.words.now) };
+
+    fn next(&mut self) -> Option<Option<Case<'a>>> {
+        if self.words.is_empty() {
+            return None;
+        }
+        let case = Case {
+            words: self.words,
+            numbers: self.numbers,
+        };
+        let end = case.start(TABLES);
+        self.words = rest(self.words, end.max(1));
+        Some(if end <= case.words.len() {
+            Some(case)
+        } else {
+            None
+        })
+    }
+}
+
+// The words as bytes, where each is one and they are no more than there is room for.
+pub fn narrow(alloc: Global, words: &[u32], room: usize) -> Result<Option<Vec<u8>>, AllocError>
+    ensures answer { IfOk result (λ bytes. is_some bytes ≡ are_bytes words.now room) }
+    ensures written { IfOk result (λ bytes. IfSome bytes (λ b. b.items ≡ words.now)) }
+{
+    if room < words.len() {
+        return Ok(None);
+    }
+    let mut bytes = Vec::with_capacity(alloc, words.len())?;
+    for word in words {
+        let value = *word;
         if BYTE < value {
-            return false;
+            return Ok(None);
         }
-        bytes[k] = value as u8;
-        k += 1;
+        bytes.push(value as u8)?;
     }
-    true
+    Ok(Some(bytes))
 }

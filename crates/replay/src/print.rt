@@ -1,20 +1,13 @@
-// Printing of numbers and refusals; no contract can say what is written.
-use tables::refusal;
+// What the programs print alike; no contract can say what is written.
+use std::io;
 use tables::refusal::Refusal;
 
-const STDOUT_FILENO: i32 = 1;
-
-pub fn text(bytes: &[u8]) {
-    io::write_all(STDOUT_FILENO, bytes);
+// What is written of an input or a case that is none.
+pub fn unreadable(rt: &impl Print) -> io::Result<()> {
+    println!(rt; "unreadable input")
 }
 
-pub fn decimal(n: u64, after: &[u8]) {
-    io::print_decimal(STDOUT_FILENO, n);
-    text(after);
-}
-
-// A refusal's number and place, and the end of the line.
-pub fn refused(why: Refusal) {
-    decimal(refusal::number(why) as u64, b" ");
-    decimal(refusal::place(why) as u64, b"\n");
+// A refusal's number and place.
+pub fn refused(rt: &impl Print, why: Refusal) -> io::Result<()> {
+    println!(rt; "{} {}", why.number(), why.place())
 }

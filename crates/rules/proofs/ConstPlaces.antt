@@ -9,7 +9,7 @@ use native.Mathlib.Decide.{dec_le}
 use lib.ListN.{length, get_or, length-append}
 use Rattle.opcode.specs.Kinds.{operand_kind}
 use Rattle.opcode.specs.declared.opcode.OperandKind.TheVariants as kind
-use Rattle.opcode.specs.declared.tables.KindLookup.TheVariants as lookup
+use Rattle.std.proofs.Common.{Some}
 use Rattle.pool.specs.Value.{Value, plain, effect, Const, find, seen, intern}
 use Rattle.pool.proofs.ConstsLaws.{find_unseen, find_seen, intern_old, intern_new, find_intern, seen_intern, find_later, seen_later, Different, different_start}
 use Rattle.pool.proofs.ConstsLaws.{different_intern, differ}
@@ -127,7 +127,7 @@ at_loads v (mark r x ∷ xs) zero z = subst (λ (y : Op). Loads v (mark r y ∷ 
 at_loads v (x ∷ xs) (suc j) z = there (at_loads v xs j (record { within = omega (arith, z.within); by = z.by; loads = z.loads }))
 
 -- LoadConst, Import and ImportFrom name a constant
-pub const_kind : (c : ConstOp) → operand_kind (const_number c) ≡ lookup.Found kind.Const
+pub const_kind : (c : ConstOp) → operand_kind (const_number c) ≡ Some kind.Const
 unfolding operand_kind
 const_kind LoadConst = refl
 const_kind Import = refl
@@ -155,7 +155,7 @@ module _ (xs : List Mark) where
       in_stream v (inl p) = p
       in_stream v (inr q) = absurd (omega (arith, loads_some v [] q))
 
-      place : (i : ℕ) → Named (reverse_aux xs []) i → (j : ℕ) × (j < length xs) × (operand_kind (code ws j) ≡ lookup.Found kind.Const) × (operand ws j ≡ i)
+      place : (i : ℕ) → Named (reverse_aux xs []) i → (j : ℕ) × (j < length xs) × (operand_kind (code ws j) ≡ Some kind.Const) × (operand ws j ≡ i)
       place i z =
           let q = loads_at z.value xs (in_stream z.value (loads_back z.value xs [] z.loads)) in
           let h = q.1.within in (

@@ -1,12 +1,10 @@
 -- Demand 3 of document 01, on the words written for a function: "the labels run from 0 with no gap, as many as 01 counts from the tree alone and as its line
 -- says, each placed exactly once in its stream; every target is one of them .." and what follows. Definitions only.
-use Rattle.std.specs.Prelude.{◌≡◌, ◌⊎◌, false, ℕ, suc, ◌+◌, ◌*◌, ◌≤◌, ◌<◌, length, get_or, T, eqb}
+use Rattle.std.specs.Prelude.{◌≡◌, ◌⊎◌, Option, Some, None, false, ℕ, suc, ◌+◌, ◌*◌, ◌≤◌, ◌<◌, length, get_or, T, eqb}
 use mathlib.Core.List.{List, [], ◌∷◌, reverse_aux}
 use Rattle.opcode.specs.Kinds.{is_target, operand_kind}
 use Rattle.opcode.specs.declared.opcode.OperandKind.{OperandKind}
 use Rattle.opcode.specs.declared.opcode.OperandKind.TheVariants as kind
-use Rattle.opcode.specs.declared.tables.KindLookup.{KindLookup}
-use Rattle.opcode.specs.declared.tables.KindLookup.TheVariants as lookup
 use Rattle.tables.specs.Forest.{children, own_tree}
 use Rattle.pool.specs.Value.{Value, plain, effect, Const, same}
 use Rattle.pool.specs.Names.{Semantic, Names, Upvalue, names, parent}
@@ -77,7 +75,7 @@ no_const = record { value = plain 0 0 0; source = 0 }
 -- "constants differ pairwise, each but Null 0 is named by an instruction"
 pub record Constants (cs : List Const) (ws : List ℕ) (n : ℕ) : Type 0 where
   pub differ : (i j : ℕ) → i < j → j < length cs → same (get_or cs i no_const).value (get_or cs j no_const).value ≡ false
-  pub named : (i : ℕ) → 1 ≤ i → i < length cs → (j : ℕ) × (j < n) × (operand_kind (code ws j) ≡ lookup.Found kind.Const) × (operand ws j ≡ i)
+  pub named : (i : ℕ) → 1 ≤ i → i < length cs → (j : ℕ) × (j < n) × (operand_kind (code ws j) ≡ Some kind.Const) × (operand ws j ≡ i)
 
 -- "An index is its operand for a constant, local, global or upvalue"
 abbrev pub Within : List Const → Names → OperandKind → ℕ → Type 0
@@ -90,9 +88,9 @@ Within cs ns kind.Local x = x < length ns.locals
 Within cs ns kind.Global x = x < length ns.globals
 Within cs ns kind.Upvalue x = x < length ns.upvalues
 
-abbrev pub WithinFound : List Const → Names → KindLookup → ℕ → Type 0
-WithinFound cs ns (lookup.Found k) x = Within cs ns k x
-WithinFound cs ns lookup.Absent x = ⊥
+abbrev pub WithinFound : List Const → Names → Option OperandKind → ℕ → Type 0
+WithinFound cs ns (Some k) x = Within cs ns k x
+WithinFound cs ns None x = ⊥
 
 -- "a capture's (table: the parent's locals or upvalues)", 1 or 2
 abbrev pub Captured : Names → Upvalue → Type 0

@@ -8,13 +8,11 @@ use native.Mathlib.Omega.{arith}
 use lib.ListN.{length, get_or}
 use lib.Dec.{ltb, eqb}
 use borrow.Author.Tests.{eq-eqb, eqb-true, ltb-true, not-false}
-use Rattle.tables.specs.declared.refusal.Broken.{Broken}
-use Rattle.tables.specs.declared.refusal.Broken.TheVariants.{Nowhere, At}
+use Rattle.std.specs.Prelude.{Option, None, Some, Ok, Err}
 use Rattle.tables.specs.declared.refusal.RecordRule.TheVariants.{Detail, Link, Children, Naming, Nesting, Numbering}
 use Rattle.tables.specs.declared.refusal.Refusal.{Refusal}
 use Rattle.tables.specs.declared.refusal.Refusal.TheVariants.{Table, Entry, Record}
-use Rattle.tables.specs.declared.refusal.Checked.{Checked}
-use Rattle.tables.specs.declared.refusal.Checked.TheVariants.{Accepted, Refused}
+use Rattle.tables.specs.Refusal.{Checked}
 use Rattle.tables.specs.Record.{word, words, size, absent, is_function}
 use Rattle.tables.specs.Forest.{root, count, levels}
 use Rattle.tables.specs.Place.{broken}
@@ -37,33 +35,30 @@ use Rattle.tables.proofs.NestingLaws.{levels_few}
 use Rattle.tables.proofs.NumberingLaws.{root_number, root_parent, table_length, own_number, own_parent, in_table}
 
 -- a row is well: the next ones decide
-pub skip : (why : ℕ → Refusal) (x y : Broken) (r : Checked) → x ≡ y → x ≡ Nowhere → r ≡ refusing why y r
+pub skip : (why : ℕ → Refusal) (x y : Option ℕ) (r : Checked) → x ≡ y → x ≡ None → r ≡ refusing why y r
 unfolding refusing
-skip why x y r e n = ap (λ (z : Broken). refusing why z r) (sym n ∙ e)
+skip why x y r e n = ap (λ (z : Option ℕ). refusing why z r) (sym n ∙ e)
 
 -- it is not: its place
-pub halt : (why : ℕ → Refusal) (x y : Broken) (r : Checked) (i : ℕ) → x ≡ y → x ≡ At i → Refused (why i) ≡ refusing why y r
+pub halt : (why : ℕ → Refusal) (x y : Option ℕ) (r : Checked) (i : ℕ) → x ≡ y → x ≡ Some i → Err (why i) ≡ refusing why y r
 unfolding refusing
-halt why x y r i e n = ap (λ (z : Broken). refusing why z r) (sym n ∙ e)
+halt why x y r i e n = ap (λ (z : Option ℕ). refusing why z r) (sym n ∙ e)
 
 -- row 4's strings are table 1's entries
-pub of_strings : (recs strings : List ℕ) (n : ℕ) (x : Broken) → x ≡ broken (wrong_detail recs n) (size recs) → n ≡ pairs strings
+pub of_strings : (recs strings : List ℕ) (n : ℕ) (x : Option ℕ) → x ≡ broken (wrong_detail recs n) (size recs) → n ≡ pairs strings
     → x ≡ broken (wrong_detail recs (pairs strings)) (size recs)
 of_strings recs strings n x e q = e ∙ ap (λ (m : ℕ). broken (wrong_detail recs m) (size recs)) q
 
-never : (why : Refusal) → Refused why ≡ Accepted → ⊥
-never why e = let z : ◌≡◌ {A = ℕ} 0 1 = cc in omega arith
-
 -- accepted: the row is well, and so are the next ones
-row_kept : (why : ℕ → Refusal) (b : Broken) (r : Checked) → refusing why b r ≡ Accepted → b ≡ Nowhere
+pub row_kept : (why : ℕ → Refusal) (b : Option ℕ) (r : Checked) → refusing why b r ≡ Ok tt → b ≡ None
 unfolding refusing
-row_kept why Nowhere r e = refl
-row_kept why (At i) r e = absurd (never (why i) e)
+row_kept why None r e = refl
+row_kept why (Some i) r e = absurd (let z : ◌≡◌ {A = ℕ} 0 1 = cc in omega arith)
 
-rest_kept : (why : ℕ → Refusal) (b : Broken) (r : Checked) → refusing why b r ≡ Accepted → r ≡ Accepted
+pub rest_kept : (why : ℕ → Refusal) (b : Option ℕ) (r : Checked) → refusing why b r ≡ Ok tt → r ≡ Ok tt
 unfolding refusing
-rest_kept why Nowhere r e = e
-rest_kept why (At i) r e = absurd (never (why i) e)
+rest_kept why None r e = e
+rest_kept why (Some i) r e = absurd (let z : ◌≡◌ {A = ℕ} 0 1 = cc in omega arith)
 
 -- a link that keeps row 5
 lawful_link : (recs : List ℕ) (r l : ℕ) → right_link r (size recs) l ≡ true → Lawful recs r l
@@ -80,7 +75,7 @@ both true b e = (refl, e)
 both false b e = absurd (let z : ◌≡◌ {A = ℕ} 0 1 = cc in omega arith)
 
 -- rows 1, 5, 6 and 7 kept: the records are one tree
-module _ (recs : List ℕ) (some : 0 < size recs) (links : broken (wrong_links recs) (size recs) ≡ Nowhere) where
+module _ (recs : List ℕ) (some : 0 < size recs) (links : broken (wrong_links recs) (size recs) ≡ None) where
   pub lawful : (r : ℕ) → r < size recs → Lawful recs r (word recs r 6) × Lawful recs r (word recs r 7)
   unfolding right_links
   lawful r h =
@@ -88,7 +83,7 @@ module _ (recs : List ℕ) (some : 0 < size recs) (links : broken (wrong_links r
       (size recs) links r h)) in
       (lawful_link recs r (word recs r 6) b.0, lawful_link recs r (word recs r 7) b.1)
 
-  pub one_tree : broken (wrong_children recs) (size recs) ≡ Nowhere → naming recs ≡ Nowhere → Joined recs
+  pub one_tree : broken (wrong_children recs) (size recs) ≡ None → naming recs ≡ None → Joined recs
   one_tree children named = joined recs some (root_alone recs children some) lawful named
 
 -- the lent tables keep rows 1 and 3 to 9
@@ -96,15 +91,15 @@ pub record Kept (strings bytes symbols references functions members records : Li
   pub fits : Fit strings bytes symbols references functions members records
   pub entries_right : Right strings bytes symbols references functions members
   pub detail_right : (r : ℕ) → r < size records → right_detail (pairs strings) (words records r) ≡ true
-  pub links_kept : broken (wrong_links records) (size records) ≡ Nowhere
-  pub children_kept : broken (wrong_children records) (size records) ≡ Nowhere
+  pub links_kept : broken (wrong_links records) (size records) ≡ None
+  pub children_kept : broken (wrong_children records) (size records) ≡ None
   pub children_right : (r : ℕ) → r < size records → right_children records r ≡ true
   pub one : Joined records
   pub root_is_function : is_function (words records 0) ≡ true
   pub root_has_no_next : word records 0 7 ≡ 0
   pub all_in_tree : count (root records) ≡ size records
   pub levels_limit : levels (root records) ≤ 128
-  pub numbering_kept : numbering records functions ≡ Nowhere
+  pub numbering_kept : numbering records functions ≡ None
   pub functions_all : pairs functions ≡ length (visited-functions records)
   pub number_own : (r : ℕ) → r < size records → is_function (words records r) ≡ true → word records r 2 ≡ number records r
   pub parent_own : (r : ℕ) → r < size records → is_function (words records r) ≡ true → get_or functions (number records r * 2) 0 ≡ parent records r
@@ -114,9 +109,9 @@ pub record Kept (strings bytes symbols references functions members records : Li
 
 module _ (strings bytes symbols references functions members records : List ℕ) where
   -- each row by itself
-  well : lent_broken strings bytes symbols references functions members records ≡ Nowhere → entries_broken strings bytes symbols references functions members ≡ Nowhere
-      → broken (wrong_detail records (pairs strings)) (size records) ≡ Nowhere → broken (wrong_links records) (size records) ≡ Nowhere
-      → broken (wrong_children records) (size records) ≡ Nowhere → naming records ≡ Nowhere → nesting records ≡ Nowhere → numbering records functions ≡ Nowhere
+  well : lent_broken strings bytes symbols references functions members records ≡ None → entries_broken strings bytes symbols references functions members ≡ None
+      → broken (wrong_detail records (pairs strings)) (size records) ≡ None → broken (wrong_links records) (size records) ≡ None
+      → broken (wrong_children records) (size records) ≡ None → naming records ≡ None → nesting records ≡ None → numbering records functions ≡ None
       → Kept strings bytes symbols references functions members records
   well e1 e3 e4 e5 e6 e7 e8 e9 =
       let f = fit strings bytes symbols references functions members records e1 in
@@ -145,8 +140,8 @@ module _ (strings bytes symbols references functions members records : List ℕ)
       }
 
   -- after row 1, as the generator asks them
-  pub rows_kept : lent_broken strings bytes symbols references functions members records ≡ Nowhere
-      → rows_of strings bytes symbols references functions members records ≡ Accepted → Kept strings bytes symbols references functions members records
+  pub rows_kept : lent_broken strings bytes symbols references functions members records ≡ None
+      → rows_of strings bytes symbols references functions members records ≡ Ok tt → Kept strings bytes symbols references functions members records
   unfolding rows_of
   rows_kept e1 a3 =
       let a4 = rest_kept Entry _ _ a3 in
@@ -158,12 +153,12 @@ module _ (strings bytes symbols references functions members records : List ℕ)
       well e1 (row_kept Entry _ _ a3) (row_kept (Record Detail) _ _ a4) (row_kept (Record Link) _ _ a5) (row_kept (Record Children) _ _ a6)
       (row_kept (Record Naming) _ _ a7) (row_kept (Record Nesting) _ _ a8) (row_kept (Record Numbering) _ _ a9)
 
-  pub kept : check_of strings bytes symbols references functions members records ≡ Accepted → Kept strings bytes symbols references functions members records
+  pub kept : check_of strings bytes symbols references functions members records ≡ Ok tt → Kept strings bytes symbols references functions members records
   unfolding check_of
   kept a = rows_kept (row_kept Table _ _ a) (rest_kept Table _ _ a)
 
   -- row 1 is well, and x is what the other rows say: the check's answer
-  pub row_one : (b : Broken) (x : Checked) → b ≡ lent_broken strings bytes symbols references functions members records → b ≡ Nowhere
+  pub row_one : (b : Option ℕ) (x : Checked) → b ≡ lent_broken strings bytes symbols references functions members records → b ≡ None
       → (size records ≤ 4096 → 0 < size records → x ≡ rows_of strings bytes symbols references functions members records)
       → x ≡ check_of strings bytes symbols references functions members records
   unfolding check_of

@@ -9,7 +9,7 @@ use lib.Dec.{eqb}
 use borrow.Author.Tests.{ne_eqb, eqb-true, eqb-false, not-false}
 use Rattle.tables.specs.declared.children.Class.{Class}
 use Rattle.tables.specs.declared.children.Class.TheVariants.{Expr, Pattern, Ident, Block, Function, Params, Handler, Case, Left, Item}
-use Rattle.tables.specs.declared.refusal.Broken.TheVariants.{Nowhere}
+use Rattle.std.specs.Prelude.{None}
 use Rattle.tables.specs.Record.{Words, words, word, size}
 use Rattle.tables.specs.Place.{broken}
 use Rattle.tables.specs.Forest.{Forest, none, tree, own_tree, children, breadth}
@@ -24,9 +24,9 @@ abbrev pub Is : Class → Words → Type 0
 Is c x = belongs c x.kind ≡ true
 
 -- nothing is left
-abbrev pub None : List Words → Type 0
-None [] = Unit {0}
-None (x ∷ xs) = ⊥
+abbrev pub NoMore : List Words → Type 0
+NoMore [] = Unit {0}
+NoMore (x ∷ xs) = ⊥
 
 abbrev pub All : Class → List Words → Type 0
 All c [] = Unit {0}
@@ -34,7 +34,7 @@ All c (x ∷ xs) = Is c x × All c xs
 
 abbrev pub AtMostOne : Class → List Words → Type 0
 AtMostOne c [] = Unit {0}
-AtMostOne c (x ∷ xs) = Is c x × None xs
+AtMostOne c (x ∷ xs) = Is c x × NoMore xs
 
 abbrev pub Pairs : Class → Class → List Words → Type 0
 Pairs a b [] = Unit {0}
@@ -57,7 +57,7 @@ pub record Split (F B : List Words → Type 0) (xs : List Words) : Type 0 where
 
 -- the form of a list of children that fits: it computes on a list, and on a forest, whose first records are given
 abbrev pub Form : List Want → List Words → Type 0
-Form [] xs = None xs
+Form [] xs = NoMore xs
 Form (times n c ∷ ws) xs = Leads n c (λ ys. Form ws ys) xs
 Form (any c ∷ ws) xs = Split (All c) (λ ys. Form ws ys) xs
 Form (maybe c ∷ ws) xs = Split (AtMostOne c) (λ ys. Form ws ys) xs
@@ -205,10 +205,10 @@ imported_none d a b =
     ap (λ (t : Bool). cond t (one Ident ∷ []) (cond (eqb d 2) (any Item ∷ []) [])) (ne_eqb d 1 a) ∙ ap (λ (t : Bool). cond t (any Item ∷ []) []) (ne_eqb d 2 b)
 
 -- a last part is the whole of what is left
-whole_of : (F : List Words → Type 0) (xs : List Words) → Split F (λ ys. None ys) xs → F xs
+whole_of : (F : List Words → Type 0) (xs : List Words) → Split F (λ ys. NoMore ys) xs → F xs
 whole_of F xs s = go s.back s.those s.whole
   where
-    go : (ys : List Words) → None ys → xs ≡ s.front ++ ys → F xs
+    go : (ys : List Words) → NoMore ys → xs ≡ s.front ++ ys → F xs
     go [] n e = subst F (sym (e ∙ append-nil s.front)) s.these
     go (y ∷ ys) n e = absurd n
 
@@ -264,7 +264,7 @@ leads_width zero c B k f xs l = f xs l ∙ (omega arith)
 leads_width (suc n) c B k f [] l = absurd l
 leads_width (suc n) c B k f (x ∷ xs) (p, l) = let h = leads_width n c B k f xs l in omega arith
 
-none_width : (xs : List Words) → None xs → length xs ≡ 0
+none_width : (xs : List Words) → NoMore xs → length xs ≡ 0
 none_width [] e = refl
 none_width (x ∷ xs) e = absurd e
 
@@ -321,7 +321,7 @@ and_right : (a b : Bool) → a && b ≡ true → b ≡ true
 and_right true b e = e
 and_right false b e = clash e
 
-module _ (recs : List ℕ) (kept : broken (wrong_children recs) (size recs) ≡ Nowhere) where
+module _ (recs : List ℕ) (kept : broken (wrong_children recs) (size recs) ≡ None) where
   right : (r : ℕ) → r < size recs → right_children recs r ≡ true
   right r h = not-false _ (holds (wrong_children recs) (size recs) kept r h)
 

@@ -1,9 +1,9 @@
 -- Functions counted by a pass from the last record to the first, and the ways of `shift`. Assumes nothing.
 use mathlib.Core.Path.{◌≡◌, refl, sym, ap, ◌∙◌}
-use mathlib.Core.Bool.{Bool, true, false, cond, not}
+use mathlib.Core.Bool.{Bool, true, false, cond}
 use mathlib.Core.List.{List}
 use mathlib.Core.Logic.{inl, inr}
-use Prim.Native.Nat.{ℕ, zero, suc, ◌+◌, ◌-◌, ◌*◌, ◌≤◌, ◌<◌, min}
+use Prim.Native.Nat.{ℕ, zero, suc, ◌+◌, ◌-◌, ◌≤◌, ◌<◌, min}
 use native.Mathlib.Omega.{arith}
 use native.Mathlib.Decide.{ℕ_discrete}
 use lib.ListN.{length, get_or, set, replicate, length-set, length-replicate, get_or-replicate}
@@ -15,7 +15,7 @@ use borrow.Author.Tests.{eq-eqb, ne_eqb}
 use Rattle.tables.specs.Record.{word, words, size}
 use Rattle.tables.specs.Forest.{Forest, none, first, next, forest}
 use Rattle.tables.specs.Numbering.{is_left, manner}
-use Rattle.tables.specs.Counting.{plus, own, shift, offset, base_down, caller_word, wrong, tally, tally_left, Tallied}
+use Rattle.tables.specs.Counting.{plus, own, shift, offset, tally, tally_left, Tallied}
 use Rattle.tables.proofs.ForestLaws.{Onward, first_onward, next_onward, forest_absent, forest_record}
 
 module _ (m : Manner) (b : Bool) (t l t' l' l'' : ℕ) where
@@ -130,21 +130,24 @@ module _ (recs : List ℕ) (few : size recs ≤ 4096) (a : List ℕ) (i f g o : 
         down_link tally recs tally_none a i (i - 1) _ d (omega arith) (next_onward recs (i - 1)),
       ))
 
-  pub turn_left : (all : List ℕ) (x z y : ℕ) → 1 < i → i ≤ size recs → Tallied tally recs all → Down tally_left recs i a → x ≡ plus o (get_or all f 0)
-      → z ≡ cond (is_left (words recs (i - 1))) x 0 → y ≡ plus z (get_or a g 0) → Down tally_left recs (i - 1) (set a (i - 1) y)
-  turn_left all x z y h s e d v c w = down_more tally_left recs a i y d h (omega arith) (go (is_left (words recs (i - 1))) (left_record recs (i - 1) (omega arith)) c)
-    where
-      later : get_or a g 0 ≡ min 4096 (tally_left (forest recs (next recs (i - 1))))
-      later = ap (λ z. get_or a z 0) q ∙ down_link tally_left recs left_none a i (i - 1) _ d (omega arith) (next_onward recs (i - 1))
+  -- the same turn for what is in Lefts, x being what the record has with what is below it
+  module _ (all : List ℕ) (x y k : ℕ) (h : 1 < i) (s : i ≤ size recs) (e : Down tally recs i all) (d : Down tally_left recs i a) (v : x ≡ plus o (get_or all f 0))
+      (w : k ≡ word recs (i - 1) 0) where
+    later : get_or a g 0 ≡ min 4096 (tally_left (forest recs (next recs (i - 1))))
+    later = ap (λ z. get_or a z 0) q ∙ down_link tally_left recs left_none a i (i - 1) _ d (omega arith) (next_onward recs (i - 1))
 
-      below : get_or all f 0 ≡ min 4096 (tally (forest recs (first recs (i - 1))))
-      below = ap (λ z. get_or all z 0) p ∙ tallied_link tally recs tally_none all (i - 1) _ (omega arith) e (first_onward recs (i - 1))
+    below : get_or all f 0 ≡ min 4096 (tally (forest recs (first recs (i - 1))))
+    below = ap (λ z. get_or all z 0) p ∙ down_link tally recs tally_none all i (i - 1) _ e (omega arith) (first_onward recs (i - 1))
 
-      go : (b : Bool) → tally_left (forest recs (i - 1)) ≡ cond b (own (words recs (i - 1)) + tally (forest recs (first recs (i - 1)))) 0 + tally_left (forest recs
-          (next recs (i - 1)))
-          → z ≡ cond b x 0 → y ≡ min 4096 (tally_left (forest recs (i - 1)))
-      go true r k = omega (arith, below, later)
-      go false r k = omega (arith, below, later)
+    record_is : (b : Bool) → is_left (words recs (i - 1)) ≡ b
+        → tally_left (forest recs (i - 1)) ≡ cond b (own (words recs (i - 1)) + tally (forest recs (first recs (i - 1)))) 0 + tally_left (forest recs (next recs (i - 1)))
+    record_is b z = left_record recs (i - 1) (omega arith) ∙ rw z refl
+
+    pub turn_left : k ≡ 34 → y ≡ plus x (get_or a g 0) → Down tally_left recs (i - 1) (set a (i - 1) y)
+    turn_left c z = down_more tally_left recs a i y d h (omega arith) (omega (arith, below, later, record_is true (eq-eqb _ 34 (sym w ∙ c))))
+
+    pub turn_other : (k ≡ 34 → ⊥) → y ≡ get_or a g 0 → Down tally_left recs (i - 1) (set a (i - 1) y)
+    turn_other c z = down_more tally_left recs a i y d h (omega arith) (omega (arith, later, record_is false (ne_eqb _ 34 (λ u. c (w ∙ u)))))
 
 pub all_end : (recs a : List ℕ) (i : ℕ) → Down tally recs i a → i ≤ 1 → Tallied tally recs a
 all_end recs a i d h = down_end tally recs tally_none a i d h
@@ -163,22 +166,3 @@ pub offset_some : (recs all left up : List ℕ) (x p k g kind own-kind r : ℕ) 
 unfolding offset
 offset_some recs all left up zero p k g kind own-kind r m d a b e f h i j = absurd (d refl)
 offset_some recs all left up (suc x) p k g kind own-kind r m d a b e f h i j = j ∙ rw (h, f, b, a, e, i) refl
-
-pub caller_some : (v : ℕ) → (v ≡ 0 → ⊥) → v - 1 ≡ caller_word v
-caller_some zero d = absurd (d refl)
-caller_some (suc v) d = omega arith
-
-module _ (recs funs : List ℕ) (r s v : ℕ) where
-  pub wrong_other : (k : ℕ) → k ≡ word recs r 0 → (k ≡ 30 → ⊥) → false ≡ wrong recs funs r s v
-  wrong_other k e d = rw (ne_eqb (word recs r 0) 30 (λ z. d (e ∙ z))) refl
-
-  pub wrong_number : (k p : ℕ) → k ≡ word recs r 0 → k ≡ 30 → p ≡ word recs r 2 → (p ≡ s → ⊥) → true ≡ wrong recs funs r s v
-  wrong_number k p e f g d = rw (eq-eqb (word recs r 0) 30 (sym e ∙ f), ne_eqb (word recs r 2) s (λ z. d (g ∙ z))) refl
-
-  pub wrong_by : (k p q w : ℕ) → k ≡ word recs r 0 → k ≡ 30 → p ≡ word recs r 2 → p ≡ s → q ≡ get_or funs (s * 2) 0 → w ≡ caller_word v → wrong recs funs r s v ≡ not (eqb q w)
-  wrong_by k p q w e f g h i j = rw (eq-eqb (word recs r 0) 30 (sym e ∙ f), eq-eqb (word recs r 2) s (sym g ∙ h), i, j) refl
-
--- what is handed down, from the calls that make it
-pub base_turn : (recs all left up : List ℕ) (i v o s w d : ℕ) → o ≡ offset recs all left up i → s ≡ plus v o → w ≡ own (words recs i) → d ≡ plus s w
-    → d ≡ base_down recs all left up i v
-base_turn recs all left up i v o s w d a b c e = e ∙ rw (b, a, c) refl

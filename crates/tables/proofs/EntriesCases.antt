@@ -3,8 +3,7 @@ use mathlib.Core.Path.{◌≡◌, refl}
 use mathlib.Core.List.{List, [], ◌∷◌}
 use Prim.Native.Nat.{ℕ}
 use lib.ListN.{replicate}
-use Rattle.tables.specs.declared.refusal.Broken.TheVariants.{Nowhere, At}
-use Rattle.tables.specs.Place.{broken_from}
+use Rattle.std.specs.Prelude.{None, Some}
 use Rattle.tables.specs.Record.{absent}
 use Rattle.tables.specs.Semantic.{share_start}
 use Rattle.tables.specs.Lent.{unfit, lent_broken}
@@ -40,8 +39,8 @@ row_3 :
     ∷ entries_broken strings bytes symbols references (absent ∷ 2 ∷ 0 ∷ 2 ∷ []) (7 ∷ 1 ∷ 1 ∷ [])
     ∷ entries_broken strings bytes symbols references functions (1 ∷ 1 ∷ 0 ∷ [])
     ∷ []
-    ≡ Nowhere ∷ At 1 ∷ At 1 ∷ At 1 ∷ At 1 ∷ At 2 ∷ At 1 ∷ []
-unfolding broken_from share_start same_string equal_earlier string_bad symbol_bad reference_bad parent_bad own_start twice member_bad entries_broken
+    ≡ None ∷ Some 1 ∷ Some 1 ∷ Some 1 ∷ Some 1 ∷ Some 2 ∷ Some 1 ∷ []
+unfolding share_start same_string equal_earlier string_bad symbol_bad reference_bad parent_bad own_start twice member_bad entries_broken
 row_3 = refl
 
 -- 256 functions; 257; half a symbol, though there are no records; no records
@@ -51,6 +50,6 @@ row_1 :
     ∷ lent_broken strings bytes (0 ∷ 0 ∷ 1 ∷ []) references functions members []
     ∷ lent_broken strings bytes symbols references functions members []
     ∷ []
-    ≡ Nowhere ∷ At 5 ∷ At 3 ∷ At 7 ∷ []
+    ≡ None ∷ Some 5 ∷ Some 3 ∷ Some 7 ∷ []
 unfolding unfit lent_broken
 row_1 = refl

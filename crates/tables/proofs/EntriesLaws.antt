@@ -1,133 +1,81 @@
 -- A search as a loop makes it, equal lists, and the share that a place lies in. Assumes nothing.
-use mathlib.Core.Path.{◌≡◌, refl, sym, ap, ap₂, subst, ◌∙◌}
+use mathlib.Core.Path.{◌≡◌, refl, sym, ap, subst, ◌∙◌}
 use mathlib.Core.Bool.{Bool, true, false, cond, not, ◌&&◌, ◌||◌, true≢false}
 use mathlib.Core.List.{List, [], ◌∷◌}
 use mathlib.Core.Logic.{◌⊎◌, inl, inr}
 use Prim.Native.Nat.{ℕ, zero, suc, ◌+◌, ◌-◌, ◌^◌, ◌≤◌, ◌<◌, min}
-use native.Mathlib.Numerals.{add-one}
 use native.Mathlib.Omega.{arith}
-use lib.ListN.{length, get_or, drop, length-take, length-drop}
+use lib.ListN.{length, get_or, length-take, length-drop}
 use lib.Dec.{leb, ltb, eqb}
-use borrow.Author.Tests.{le-leb, lt-leb, le-ltb, lt-ltb, eq-eqb, ne_eqb, leb-false, ltb-true, ltb-false, eqb-true, eqb-false, not-false}
-use Rattle.tables.specs.declared.refusal.Broken.{Broken}
-use Rattle.tables.specs.declared.refusal.Broken.TheVariants.{Nowhere, At}
+use borrow.Author.Tests.{le-leb, lt-leb, eq-eqb, ne_eqb, leb-false, ltb-true, ltb-false, eqb-true, eqb-false, not-false}
+use Rattle.std.specs.List.{find, list_any}
+use Rattle.std.specs.Prelude.{Option, None, Some}
 use Rattle.tables.specs.Place.{broken_from, broken}
 use Rattle.tables.specs.Record.{absent}
 use Rattle.tables.specs.Semantic.{pairs, string_offset, string_length, text_of, symbol_kind, symbol_name, symbol_of, parent_of, member_count, share_start, share}
 use Rattle.tables.specs.Entries.{or_else, found, same_list, same_string, past_bytes, equal_earlier, string_bad}
 use Rattle.tables.specs.Entries.{symbol_bad, reference_bad, parent_bad, own_start, twice, member_bad, own_bad}
 use Rattle.tables.specs.Entries.{strings_broken, symbols_broken, references_broken, parents_broken, counts_broken, members_broken, entries_broken}
-use Rattle.tables.proofs.PlaceLaws.{rest, rest_on, rest_at, rest_end, holds}
+use Rattle.tables.proofs.PlaceLaws.{rest, rest_on, rest_at, rest_end, holds, alike_from}
 use Rattle.tables.proofs.SemanticLaws.{split, part_at, start_zero, start_next, start_mono}
 
 -- what is left of a search at place i is b
-module _ (bad : ℕ → Bool) (n i : ℕ) (b : Broken) (left : rest bad n i ≡ b) where
+module _ (bad : ℕ → Bool) (n i : ℕ) (b : Option ℕ) (left : rest bad n i ≡ b) where
   pub go_on : i < n → bad i ≡ false → rest bad n (i + 1) ≡ b
   go_on h e = sym (rest_on bad n i h e) ∙ left
 
-  pub stop_at : i < n → bad i ≡ true → At i ≡ b
+  pub stop_at : i < n → bad i ≡ true → Some i ≡ b
   stop_at h e = sym (rest_at bad n i h e) ∙ left
 
-  pub ended : n ≤ i → Nowhere ≡ b
+  pub ended : n ≤ i → None ≡ b
   ended h = sym (rest_end bad n i h) ∙ left
 
--- one of two tests
-pub or_hit : (t u : Bool) → t ≡ true → true ≡ t || u
-or_hit t u e = ap (λ (x : Bool). x || u) (sym e)
-
-pub or_skip : (t u : Bool) → t ≡ false → u ≡ t || u
-or_skip t u e = ap (λ (x : Bool). x || u) (sym e)
-
--- a parent is none, or is tested against the functions
-pub parent_none : (p n : ℕ) → p ≡ absent → false ≡ not (eqb p absent || ltb p n)
-parent_none p n e = ap (λ (x : Bool). not (x || ltb p n)) (sym (eq-eqb p absent e))
-
-pub parent_some : (p n : ℕ) → (p ≡ absent → ⊥) → leb n p ≡ not (eqb p absent || ltb p n)
-parent_some p n ne = go (split n p) ∙ ap (λ (x : Bool). not (x || ltb p n)) (sym (ne_eqb p absent ne))
+-- some place is broken
+pub any_found : (bad : ℕ → Bool) (places : List ℕ) → list_any bad places ≡ found (find bad places)
+any_found bad [] = refl
+any_found bad (i ∷ places) = go (bad i) (any_found bad places)
   where
-    go : (n ≤ p) ⊎ (p < n) → leb n p ≡ not (ltb p n)
-    go (inl h) = le-leb n p h ∙ ap not (sym (le-ltb p n h))
-    go (inr h) = lt-leb n p h ∙ ap not (sym (lt-ltb p n h))
+    go : (t : Bool) → list_any bad places ≡ found (find bad places) → t || list_any bad places ≡ found (cond t (Some i) (find bad places))
+    go true e = refl
+    go false e = e
 
 -- the counts, summed up to a number that no table's length reaches
 module _ (functions members : List ℕ) (n sum : ℕ) (last : n ≡ pairs functions) (added : sum ≡ min (share_start functions n) (2 ^ 63)) (short : length members < 2 ^ 63) where
   summed : sum ≡ min (share_start functions (pairs functions)) (2 ^ 63)
   summed = added ∙ ap (λ (k : ℕ). min (share_start functions k) (2 ^ 63)) last
 
-  pub counts_right : sum ≡ length members → Nowhere ≡ counts_broken functions members
+  pub counts_right : sum ≡ length members → None ≡ counts_broken functions members
   counts_right e =
-      ap (λ (t : Bool). cond t Nowhere (At (pairs functions))) (sym (eq-eqb (share_start functions (pairs functions)) (length members) (omega (arith, summed))))
+      ap (λ (t : Bool). cond t None (Some (pairs functions))) (sym (eq-eqb (share_start functions (pairs functions)) (length members) (omega (arith, summed))))
 
-  pub counts_wrong : (sum ≡ length members → ⊥) → At n ≡ counts_broken functions members
+  pub counts_wrong : (sum ≡ length members → ⊥) → Some n ≡ counts_broken functions members
   counts_wrong ne =
-      ap At last
-      ∙ ap (λ (t : Bool). cond t Nowhere (At (pairs functions)))
+      ap Some last
+      ∙ ap (λ (t : Bool). cond t None (Some (pairs functions)))
       (sym (ne_eqb (share_start functions (pairs functions)) (length members) (λ q. ne (omega (arith, summed)))))
 
--- equal lists, element by element
-same_next : (a b : List ℕ) (i : ℕ) → i < length a → i < length b → get_or a i 0 ≡ get_or b i 0
-    → same_list (drop (suc i) a) (drop (suc i) b) ≡ same_list (drop i a) (drop i b)
-same_next [] b i h g e = absurd (omega arith)
-same_next (x ∷ a) [] i h g e = absurd (omega arith)
-same_next (x ∷ a) (y ∷ b) zero h g e = ap (λ (t : Bool). t && same_list a b) (sym (eq-eqb x y e))
-same_next (x ∷ a) (y ∷ b) (suc i) h g e = same_next a b i (omega arith) (omega arith) e
-
-pub same_on : (a b : List ℕ) (i : ℕ) → i < length a → i < length b → get_or a i 0 ≡ get_or b i 0
-    → same_list (drop (i + 1) a) (drop (i + 1) b) ≡ same_list (drop i a) (drop i b)
-same_on a b i h g e = rw (add-one i) (same_next a b i h g e)
-
-pub same_off : (a b : List ℕ) (i : ℕ) → i < length a → i < length b → (get_or a i 0 ≡ get_or b i 0 → ⊥) → false ≡ same_list (drop i a) (drop i b)
-same_off [] b i h g e = absurd (omega arith)
-same_off (x ∷ a) [] i h g e = absurd (omega arith)
-same_off (x ∷ a) (y ∷ b) zero h g e = ap (λ (t : Bool). t && same_list a b) (sym (ne_eqb x y e))
-same_off (x ∷ a) (y ∷ b) (suc i) h g e = same_off a b i (omega arith) (omega arith) e
-
-pub same_end : (a b : List ℕ) (i : ℕ) → length a ≡ length b → length a ≤ i → true ≡ same_list (drop i a) (drop i b)
-same_end [] [] zero e h = refl
-same_end [] [] (suc i) e h = refl
-same_end [] (y ∷ b) i e h = absurd (omega arith)
-same_end (x ∷ a) [] i e h = absurd (omega arith)
-same_end (x ∷ a) (y ∷ b) zero e h = absurd (omega arith)
-same_end (x ∷ a) (y ∷ b) (suc i) e h = same_end a b i (omega arith) (omega arith)
-
-and_false : (t : Bool) → false ≡ t && false
-and_false true = refl
-and_false false = refl
-
-pub same_lengths : (a b : List ℕ) → (length a ≡ length b → ⊥) → false ≡ same_list a b
-same_lengths [] [] ne = absurd (ne refl)
-same_lengths [] (y ∷ b) ne = refl
-same_lengths (x ∷ a) [] ne = refl
-same_lengths (x ∷ a) (y ∷ b) ne = and_false (eqb x y) ∙ ap (λ (t : Bool). eqb x y && t) (same_lengths a b (λ e. ne (ap suc e)))
-
+-- a list equals itself, element by element
 pub same_refl : (a : List ℕ) → same_list a a ≡ true
 same_refl [] = refl
 same_refl (x ∷ a) = ap (λ (t : Bool). t && same_list a a) (eq-eqb x x refl) ∙ same_refl a
 
 -- a search that is cut in two
-either : (t : Bool) (i : ℕ) (x y z : Broken) → x ≡ or_else y z → cond t (At i) x ≡ or_else (cond t (At i) y) z
+either : (t : Bool) (i : ℕ) (x y z : Option ℕ) → x ≡ or_else y z → cond t (Some i) x ≡ or_else (cond t (Some i) y) z
 either true i x y z e = refl
 either false i x y z e = e
 
 cut : (bad : ℕ → Bool) (i a b m j : ℕ) → m ≡ a + b → j ≡ i + a → broken_from bad i m ≡ or_else (broken_from bad i a) (broken_from bad j b)
-unfolding broken_from
 cut bad i zero b m j e g = let z : m ≡ b = omega arith in let y : j ≡ i = omega arith in rw (z, y)
 cut bad i (suc a) b m j e g =
     let z : m ≡ suc (a + b) = omega arith in
-    rw z (either (bad i) i (broken_from bad (suc i) (a + b)) (broken_from bad (suc i) a) (broken_from bad j b) (cut bad (suc i) a b (a + b) j refl (omega arith)))
+    rw z (either (bad i) i (broken_from bad (i + 1) (a + b)) (broken_from bad (i + 1) a) (broken_from bad j b) (cut bad (i + 1) a b (a + b) j refl (omega arith)))
 
 pub rest_cut : (bad : ℕ → Bool) (n k i : ℕ) → i ≤ k → k ≤ n → rest bad n i ≡ or_else (rest bad k i) (rest bad n k)
 rest_cut bad n k i h g = cut bad i (k - i) (n - k) (n - i) k (omega arith) (omega arith)
 
 -- searches by tests that agree
-alike : (bad bad' : ℕ → Bool) (i m : ℕ) → ((j : ℕ) → i ≤ j → j < i + m → bad j ≡ bad' j) → broken_from bad i m ≡ broken_from bad' i m
-unfolding broken_from
-alike bad bad' i zero h = refl
-alike bad bad' i (suc m) h =
-    ap₂ (λ (t : Bool) (x : Broken). cond t (At i) x) (h i (omega arith) (omega arith)) (alike bad bad' (suc i) m (λ j p q. h j (omega arith) (omega arith)))
-
 pub rest_alike : (bad bad' : ℕ → Bool) (n i : ℕ) → ((j : ℕ) → i ≤ j → j < n → bad j ≡ bad' j) → rest bad n i ≡ rest bad' n i
-rest_alike bad bad' n i h = alike bad bad' i (n - i) (λ j p q. h j p (omega arith))
+rest_alike bad bad' n i h = alike_from bad bad' i (n - i) (λ j p q. h j p (omega arith))
 
 module _ (functions : List ℕ) (m : ℕ) where
   -- the share that starts not after m, and whose next starts after it, is m's
@@ -165,37 +113,37 @@ module _ (symbols functions members : List ℕ) (f start end : ℕ) (within : f 
           ap (λ (s : ℕ). member_bad symbols members s j)
           (z ∙ sym (own_at functions j f (pairs functions) within (omega arith) (λ l. let g = ends l in omega arith)))
 
-  module _ (b r : Broken) (order : start ≤ end) (left : rest (own_bad symbols functions members) (length members) start ≡ b)
+  module _ (b r : Option ℕ) (order : start ≤ end) (left : rest (own_bad symbols functions members) (length members) start ≡ b)
       (walked : r ≡ rest (member_bad symbols members start) end start) where
     parted : or_else r (rest (own_bad symbols functions members) (length members) end) ≡ b
     parted =
-        ap (λ (x : Broken). or_else x (rest (own_bad symbols functions members) (length members) end)) (walked ∙ share_rest)
+        ap (λ (x : Option ℕ). or_else x (rest (own_bad symbols functions members) (length members) end)) (walked ∙ share_rest)
         ∙ sym (rest_cut (own_bad symbols functions members) (length members) end start order inside) ∙ left
 
-    pub share_on : r ≡ Nowhere → rest (own_bad symbols functions members) (length members) end ≡ b
-    share_on e = ap (λ (x : Broken). or_else x (rest (own_bad symbols functions members) (length members) end)) (sym e) ∙ parted
+    pub share_on : r ≡ None → rest (own_bad symbols functions members) (length members) end ≡ b
+    share_on e = ap (λ (x : Option ℕ). or_else x (rest (own_bad symbols functions members) (length members) end)) (sym e) ∙ parted
 
-    pub share_at : (m : ℕ) → r ≡ At m → At m ≡ b
-    share_at m e = ap (λ (x : Broken). or_else x (rest (own_bad symbols functions members) (length members) end)) (sym e) ∙ parted
+    pub share_at : (m : ℕ) → r ≡ Some m → Some m ≡ b
+    share_at m e = ap (λ (x : Option ℕ). or_else x (rest (own_bad symbols functions members) (length members) end)) (sym e) ∙ parted
 
     pub share_end : end ≡ length members → r ≡ b
     share_end e = walked ∙ share_rest ∙ ap (λ (n : ℕ). rest (own_bad symbols functions members) n start) e ∙ left
 
 -- what a search that found nothing says of each place
-pub nowhere_not : (i : ℕ) → At i ≡ Nowhere → ⊥
+pub nowhere_not : (i : ℕ) → Some i ≡ None → ⊥
 nowhere_not i e = true≢false (ap found e)
 
-or_else_l : (x y : Broken) → or_else x y ≡ Nowhere → x ≡ Nowhere
-or_else_l Nowhere y e = refl
-or_else_l (At i) y e = e
+or_else_l : (x y : Option ℕ) → or_else x y ≡ None → x ≡ None
+or_else_l None y e = refl
+or_else_l (Some i) y e = e
 
-or_else_r : (x y : Broken) → or_else x y ≡ Nowhere → y ≡ Nowhere
-or_else_r Nowhere y e = e
-or_else_r (At i) y e = absurd (nowhere_not i e)
+or_else_r : (x y : Option ℕ) → or_else x y ≡ None → y ≡ None
+or_else_r None y e = e
+or_else_r (Some i) y e = absurd (nowhere_not i e)
 
-not_found : (x : Broken) → found x ≡ false → x ≡ Nowhere
-not_found Nowhere e = refl
-not_found (At i) e = absurd (true≢false e)
+not_found : (x : Option ℕ) → found x ≡ false → x ≡ None
+not_found None e = refl
+not_found (Some i) e = absurd (true≢false e)
 
 pub or_l : (t u : Bool) → t || u ≡ false → t ≡ false
 or_l true u e = e
@@ -205,10 +153,10 @@ pub or_r : (t u : Bool) → t || u ≡ false → u ≡ false
 or_r true u e = absurd (true≢false e)
 or_r false u e = e
 
-pub rest_holds : (bad : ℕ → Bool) (n i k : ℕ) → rest bad n i ≡ Nowhere → i ≤ k → k < n → bad k ≡ false
+pub rest_holds : (bad : ℕ → Bool) (n i k : ℕ) → rest bad n i ≡ None → i ≤ k → k < n → bad k ≡ false
 rest_holds bad n i k e h g = go (bad k) refl
   where
-    after : rest bad n k ≡ Nowhere
+    after : rest bad n k ≡ None
     after = or_else_r (rest bad k i) (rest bad n k) (sym (rest_cut bad n k i h (omega arith)) ∙ e)
 
     go : (t : Bool) → bad k ≡ t → bad k ≡ false
@@ -228,7 +176,7 @@ pub record Right (strings bytes symbols references functions members : List ℕ)
   pub members_differ : (f i j : ℕ) → f < pairs functions → i < j → j < member_count functions f
       → get_or (share functions members f) i 0 ≡ get_or (share functions members f) j 0 → ⊥
 
-module _ (strings bytes : List ℕ) (e : strings_broken strings bytes ≡ Nowhere) where
+module _ (strings bytes : List ℕ) (e : strings_broken strings bytes ≡ None) where
   string_right : (s : ℕ) → s < pairs strings → string_bad strings bytes s ≡ false
   string_right s h = holds (string_bad strings bytes) (pairs strings) e s h
 
@@ -248,7 +196,7 @@ module _ (strings bytes : List ℕ) (e : strings_broken strings bytes ≡ Nowher
           i
           h
 
-module _ (strings symbols : List ℕ) (e : symbols_broken strings symbols ≡ Nowhere) where
+module _ (strings symbols : List ℕ) (e : symbols_broken strings symbols ≡ None) where
   symbol_right : (s : ℕ) → s < pairs symbols → symbol_bad strings symbols s ≡ false
   symbol_right s h = holds (symbol_bad strings symbols) (pairs symbols) e s h
 
@@ -260,11 +208,11 @@ module _ (strings symbols : List ℕ) (e : symbols_broken strings symbols ≡ No
   unfolding symbol_bad
   name s h = leb-false (pairs strings) (symbol_name symbols s) (or_r (ltb 1 (symbol_kind symbols s)) (leb (pairs strings) (symbol_name symbols s)) (symbol_right s h))
 
-reference : (symbols references : List ℕ) → references_broken symbols references ≡ Nowhere → (r : ℕ) → r < length references → symbol_of references r < pairs symbols
+reference : (symbols references : List ℕ) → references_broken symbols references ≡ None → (r : ℕ) → r < length references → symbol_of references r < pairs symbols
 unfolding reference_bad
 reference symbols references e r h = leb-false (pairs symbols) (symbol_of references r) (holds (reference_bad symbols references) (length references) e r h)
 
-parent : (functions : List ℕ) → parents_broken functions ≡ Nowhere → (f : ℕ) → f < pairs functions
+parent : (functions : List ℕ) → parents_broken functions ≡ None → (f : ℕ) → f < pairs functions
     → (parent_of functions f ≡ absent) ⊎ (parent_of functions f < pairs functions)
 unfolding parent_bad
 parent functions e f h = go (eqb (parent_of functions f) absent) refl (holds (parent_bad functions) (pairs functions) e f h)
@@ -274,10 +222,10 @@ parent functions e f h = go (eqb (parent_of functions f) absent) refl (holds (pa
     go true q n = inl (eqb-true (parent_of functions f) absent q)
     go false q n = inr (ltb-true (parent_of functions f) (pairs functions) (not-false (ltb (parent_of functions f) (pairs functions)) n))
 
-counts : (functions members : List ℕ) → counts_broken functions members ≡ Nowhere → share_start functions (pairs functions) ≡ length members
+counts : (functions members : List ℕ) → counts_broken functions members ≡ None → share_start functions (pairs functions) ≡ length members
 counts functions members e = go (eqb (share_start functions (pairs functions)) (length members)) refl e
   where
-    go : (t : Bool) → eqb (share_start functions (pairs functions)) (length members) ≡ t → cond t Nowhere (At (pairs functions)) ≡ Nowhere
+    go : (t : Bool) → eqb (share_start functions (pairs functions)) (length members) ≡ t → cond t None (Some (pairs functions)) ≡ None
         → share_start functions (pairs functions) ≡ length members
     go true q n = eqb-true (share_start functions (pairs functions)) (length members) q
     go false q n = absurd (nowhere_not (pairs functions) n)
@@ -293,7 +241,7 @@ module _ (functions members : List ℕ) (sum : share_start functions (pairs func
   pub share_length : length (share functions members f) ≡ member_count functions f
   share_length = simp (length-take, length-drop) (omega (arith, share_inside))
 
-module _ (symbols functions members : List ℕ) (e : members_broken symbols functions members ≡ Nowhere) where
+module _ (symbols functions members : List ℕ) (e : members_broken symbols functions members ≡ None) where
   member_right : (m : ℕ) → m < length members → own_bad symbols functions members m ≡ false
   member_right m h = holds (own_bad symbols functions members) (length members) e m h
 
@@ -329,7 +277,7 @@ module _ (symbols functions members : List ℕ) (e : members_broken symbols func
       (apart_at f (s + i) (s + j) h (omega arith) (omega arith) (omega (arith, start_next functions f)) (omega (arith, share_inside functions members sum f h)))
       (part_at members s (member_count functions f) i (omega arith) ∙ same ∙ sym (part_at members s (member_count functions f) j q))
 
-pub right : (strings bytes symbols references functions members : List ℕ) → entries_broken strings bytes symbols references functions members ≡ Nowhere
+pub right : (strings bytes symbols references functions members : List ℕ) → entries_broken strings bytes symbols references functions members ≡ None
     → Right strings bytes symbols references functions members
 unfolding entries_broken
 right strings bytes symbols references functions members e =

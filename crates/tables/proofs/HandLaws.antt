@@ -6,7 +6,7 @@ use Prim.Native.Nat.{ℕ, zero, suc, ◌+◌, ◌≤◌, ◌<◌}
 use native.Mathlib.Omega.{arith}
 use native.Mathlib.Decide.{ℕ_discrete}
 use lib.ListN.{length, get_or, set, replicate, length-set, length-replicate, get_or-replicate}
-use lib.Seq.{get_or-set_same, get_or-set_other, set_out}
+use lib.Seq.{get_or-set_same, get_or-set_other}
 use Rattle.tables.specs.Record.{size}
 use Rattle.tables.specs.Forest.{first, next}
 use Rattle.tables.specs.Naming.{one, Joined}
@@ -18,10 +18,6 @@ use Rattle.tables.proofs.TreeLaws.{leads, same_leader, leads_once}
 pub handed_put : (a : List ℕ) (x v : ℕ) → 0 < x → set a x v ≡ handed a x v
 handed_put a zero v h = absurd (omega arith)
 handed_put a (suc x) v h = refl
-
-pub handed_out : (a : List ℕ) (x v : ℕ) → length a ≤ x → a ≡ handed a x v
-handed_out a zero v h = refl
-handed_out a (suc x) v h = sym (set_out a (suc x) v h)
 
 pub handed_none : (a : List ℕ) (x v : ℕ) → x ≡ 0 → a ≡ handed a x v
 handed_none a zero v h = refl

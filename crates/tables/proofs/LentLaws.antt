@@ -2,24 +2,24 @@
 use mathlib.Core.Path.{◌≡◌, refl}
 use mathlib.Core.Bool.{Bool, true, false}
 use mathlib.Core.List.{List, [], ◌∷◌}
-use Prim.Native.Nat.{ℕ, zero, suc, ◌*◌, ◌/◌, ◌%◌, ◌≤◌, ◌<◌}
+use Prim.Native.Nat.{ℕ, zero, suc, ◌+◌, ◌*◌, ◌/◌, ◌%◌, ◌≤◌, ◌<◌}
 use native.Mathlib.Omega.{arith}
 use lib.ListN.{length, get_or}
 use lib.Dec.{ltb, eqb}
 use borrow.Author.Tests.{ltb-false, eqb-false}
-use Rattle.tables.specs.declared.refusal.Broken.TheVariants.{Nowhere}
+use Rattle.std.specs.Prelude.{None}
 use Rattle.tables.specs.Record.{size}
 use Rattle.tables.specs.Semantic.{pairs}
 use Rattle.tables.specs.Lent.{unfit, first_refused, refused, lent_broken}
 use Rattle.tables.proofs.EntriesLaws.{or_l, or_r, nowhere_not}
 
 -- no table is refused: each test says so
-all_fit : (t k : ℕ) (bs : List Bool) → first_refused t bs ≡ Nowhere → get_or bs k false ≡ false
+all_fit : (t k : ℕ) (bs : List Bool) → first_refused t bs ≡ None → get_or bs k false ≡ false
 all_fit t k [] e = refl
 all_fit t zero (true ∷ bs) e = absurd (nowhere_not t e)
 all_fit t (suc k) (true ∷ bs) e = absurd (nowhere_not t e)
 all_fit t zero (false ∷ bs) e = refl
-all_fit t (suc k) (false ∷ bs) e = all_fit (suc t) k bs e
+all_fit t (suc k) (false ∷ bs) e = all_fit (t + 1) k bs e
 
 module _ (width limit words : ℕ) (e : unfit width limit words ≡ false) where
   within : words / width ≤ limit
@@ -49,7 +49,7 @@ pub record Fit (strings bytes symbols references functions members records : Lis
   pub records_whole : length records ≡ size records * 8
   pub records_some : 0 < size records
 
-pub fit : (strings bytes symbols references functions members records : List ℕ) → lent_broken strings bytes symbols references functions members records ≡ Nowhere
+pub fit : (strings bytes symbols references functions members records : List ℕ) → lent_broken strings bytes symbols references functions members records ≡ None
     → Fit strings bytes symbols references functions members records
 unfolding lent_broken
 fit strings bytes symbols references functions members records e =

@@ -1,6 +1,6 @@
+pub mod FindLaws
 pub mod ForestLaws
 pub mod PlaceLaws
-pub mod RowLaws
 pub mod SemanticLaws
 pub mod LentLaws
 pub mod EntriesLaws

@@ -6,7 +6,7 @@ use Prim.Native.Nat.{ℕ, ◌<◌}
 use native.Mathlib.Omega.{arith}
 use lib.Dec.{ltb, eqb}
 use borrow.Author.Tests.{eqb-true, not-false}
-use Rattle.tables.specs.declared.refusal.Broken.TheVariants.{Nowhere}
+use Rattle.std.specs.Prelude.{None}
 use Rattle.tables.specs.Place.{broken}
 use Rattle.tables.specs.Record.{word, size}
 use Rattle.tables.specs.Forest.{guarded, first, next}
@@ -34,7 +34,7 @@ same r n l = go (ltb r l && ltb l n)
     go true e = refl
     go false e = zero_link (eqb l 0) refl e
 
-module _ (recs : List ℕ) (kept : broken (wrong_links recs) (size recs) ≡ Nowhere) (r : ℕ) (inside : r < size recs) where
+module _ (recs : List ℕ) (kept : broken (wrong_links recs) (size recs) ≡ None) (r : ℕ) (inside : r < size recs) where
   right : right_links recs r ≡ true
   right = not-false _ (holds (wrong_links recs) (size recs) kept r inside)
 

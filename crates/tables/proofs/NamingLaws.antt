@@ -1,6 +1,6 @@
 -- Links counted in an array, each count up to 2, and the search for a record named wrongly. Assumes nothing.
 use mathlib.Core.Path.{◌≡◌, refl, sym, ap, subst, ◌∙◌}
-use mathlib.Core.Bool.{Bool, true, false, cond, not, ◌&&◌}
+use mathlib.Core.Bool.{Bool, true, false, cond, not}
 use mathlib.Core.List.{List}
 use Prim.Native.Nat.{ℕ, ◌+◌, ◌≤◌, ◌<◌, min}
 use native.Mathlib.Omega.{arith}
@@ -8,9 +8,9 @@ use native.Mathlib.Decide.{ℕ_discrete}
 use native.Mathlib.Numerals.{add-one}
 use lib.ListN.{length, get_or, set, replicate, length-set, length-replicate, get_or-replicate}
 use lib.Seq.{get_or-set_same, get_or-set_other}
-use lib.Dec.{ltb, eqb}
+use lib.Dec.{eqb}
 use borrow.Author.Tests.{lt-ltb, eq-eqb, ne_eqb, eqb-true}
-use Rattle.tables.specs.declared.refusal.Broken.TheVariants.{Nowhere}
+use Rattle.std.specs.Prelude.{None}
 use Rattle.tables.specs.Record.{word, size}
 use Rattle.tables.specs.Naming.{one, names, named_by, named, misnamed, naming}
 use Rattle.tables.proofs.PlaceLaws.{rest, rest_on, rest_end, rest_start, holds}
@@ -70,18 +70,15 @@ naming_start recs = go (ℕ_discrete (size recs) 0)
     go (no z) = sym (rest_on (misnamed recs) (size recs) 0 (omega arith) refl) ∙ rest_start (misnamed recs) (size recs)
 
 -- a count of 1 is a record named once
-pub named_right : (recs : List ℕ) (x c : ℕ) → c ≡ min 2 (named recs x) → c ≡ 1 → misnamed recs x ≡ false
-named_right recs x c e h = go (ltb 0 x) (eq-eqb (named recs x) 1 (omega arith))
+pub named_same : (recs : List ℕ) (x c : ℕ) → 1 ≤ x → c ≡ min 2 (named recs x) → not (eqb c 1) ≡ misnamed recs x
+named_same recs x c p e = rw (lt-ltb 0 x p) (go (ℕ_discrete (named recs x) 1))
   where
-    go : (b : Bool) → eqb (named recs x) 1 ≡ true → b && not (eqb (named recs x) 1) ≡ false
-    go true q = rw q
-    go false q = refl
-
-pub named_wrong : (recs : List ℕ) (x c : ℕ) → 1 ≤ x → c ≡ min 2 (named recs x) → (c ≡ 1 → ⊥) → misnamed recs x ≡ true
-named_wrong recs x c p e h = rw (lt-ltb 0 x p, ne_eqb (named recs x) 1 (λ z. h (omega arith)))
+    go : Dec (named recs x ≡ 1) → not (eqb c 1) ≡ not (eqb (named recs x) 1)
+    go (yes q) = ap not (eq-eqb c 1 (omega arith) ∙ sym (eq-eqb (named recs x) 1 q))
+    go (no d) = ap not (ne_eqb c 1 (λ z. d (omega arith)) ∙ sym (ne_eqb (named recs x) 1 d))
 
 -- row 7 holds: every record but 0 is named once
-pub once : (recs : List ℕ) → naming recs ≡ Nowhere → (x : ℕ) → 1 ≤ x → x < size recs → named recs x ≡ 1
+pub once : (recs : List ℕ) → naming recs ≡ None → (x : ℕ) → 1 ≤ x → x < size recs → named recs x ≡ 1
 once recs e x p h = eqb-true _ _ (go (eqb (named recs x) 1) (rw (lt-ltb 0 x p) at (holds (misnamed recs) (size recs) e x h)))
   where
     go : (b : Bool) → not b ≡ false → b ≡ true

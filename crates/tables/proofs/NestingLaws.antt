@@ -1,15 +1,16 @@
 -- The levels that a pass over the links finds are those of the tree, and row 8 bounds the tree's levels. Assumes nothing.
 use mathlib.Core.Path.{◌≡◌, refl, sym, ap, ◌∙◌}
-use mathlib.Core.Bool.{true, false, cond}
+use mathlib.Core.Bool.{cond}
 use mathlib.Core.List.{List}
 use mathlib.Core.Logic.{◌⊎◌, inl, inr}
 use Prim.Native.Nat.{ℕ, suc, ◌+◌, ◌≤◌, ◌<◌, min, max}
 use native.Mathlib.Omega.{arith}
 use native.Mathlib.Decide.{ℕ_discrete}
 use lib.ListN.{get_or}
+use Rattle.std.proofs.lemmas.Bool.{cases_lt}
 use lib.Dec.{ltb, eqb}
 use borrow.Author.Tests.{lt-ltb, le-ltb, eq-eqb, ne_eqb, ltb-false}
-use Rattle.tables.specs.declared.refusal.Broken.TheVariants.{Nowhere}
+use Rattle.std.specs.Prelude.{None}
 use Rattle.tables.specs.Record.{size}
 use Rattle.tables.specs.Forest.{Forest, none, tree, first, next, forest, root, levels}
 use Rattle.tables.specs.Naming.{Joined}
@@ -89,11 +90,13 @@ module _ (recs a : List ℕ) (j : Joined recs) (h : Handed (λ r v. min 129 (v +
       go (inl e) = absurd (omega (arith, standing x (root recs) 1 (omega arith) (omega (arith, tree_once recs j x p))))
       go (inr e) = e
 
-pub nested_deep : (v l : ℕ) → v ≡ min 129 l → 128 < v → ltb 128 l ≡ true
-nested_deep v l e h = lt-ltb 128 l (omega arith)
-
-pub nested_well : (v l : ℕ) → v ≡ min 129 l → v ≤ 128 → ltb 128 l ≡ false
-nested_well v l e h = le-ltb 128 l (omega arith)
+-- up to 129 the array tells what is too deep
+pub nested_same : (v l : ℕ) → v ≡ min 129 l → ltb 128 v ≡ ltb 128 l
+nested_same v l e = go (cases_lt 128 l)
+  where
+    go : (128 < l) ⊎ (l ≤ 128) → ltb 128 v ≡ ltb 128 l
+    go (inl h) = lt-ltb 128 v (omega arith) ∙ sym (lt-ltb 128 l (omega arith))
+    go (inr h) = le-ltb 128 v (omega arith) ∙ sym (le-ltb 128 l (omega arith))
 
 -- a level is one of the forest's
 level_within : (x : ℕ) (f : Forest) (l : ℕ) → level_in x (suc l) f ≤ l + levels f
@@ -117,7 +120,7 @@ levels_within n m (tree r w k s) l p (u, v, t) h =
     )
 
 -- row 8 holds: the tree has at most 128 levels
-pub levels_few : (recs : List ℕ) → 0 < size recs → nesting recs ≡ Nowhere → levels (root recs) ≤ 128
+pub levels_few : (recs : List ℕ) → 0 < size recs → nesting recs ≡ None → levels (root recs) ≤ 128
 levels_few recs s e =
     omega (
       arith,

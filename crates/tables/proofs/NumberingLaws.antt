@@ -10,7 +10,7 @@ use lib.Dec.{eqb}
 use borrow.Author.Tests.{eq-eqb, ne_eqb, eqb-true}
 use Rattle.tables.specs.declared.numbering.Manner.{Manner}
 use Rattle.tables.specs.declared.numbering.Manner.TheVariants.{Stored, RightFirst, RightThenBack}
-use Rattle.tables.specs.declared.refusal.Broken.TheVariants.{Nowhere}
+use Rattle.std.specs.Prelude.{None}
 use Rattle.tables.specs.Record.{word, words, size, absent, is_function}
 use Rattle.tables.specs.Forest.{Forest, none, tree, children, root, first}
 use Rattle.tables.specs.Naming.{one, Joined}
@@ -242,7 +242,7 @@ clash : true ≡ false → ⊥
 clash e = let z : ◌≡◌ {A = ℕ} 0 1 = cc in omega arith
 
 -- a table that row 9 accepts
-module _ (recs funs : List ℕ) (j : Joined recs) (ok : numbering recs funs ≡ Nowhere) where
+module _ (recs funs : List ℕ) (j : Joined recs) (ok : numbering recs funs ≡ None) where
   pub table_length : length funs / 2 ≡ length (functions recs)
   table_length = eqb-true _ _ (both (eqb (length funs / 2) (length (functions recs))) (misnumbered recs funs 0) (holds (λ r.
       (eqb r 0 && uneven recs funs) || misnumbered recs funs r) (size recs) ok 0 j.some))

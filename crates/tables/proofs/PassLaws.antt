@@ -9,17 +9,15 @@ use lib.ListN.{length, get_or}
 use lib.Seq.{get_or-append_seam}
 use lib.Dec.{eqb}
 use borrow.Author.Tests.{eq-eqb, ne_eqb}
-use Rattle.tables.specs.declared.refusal.Broken.{Broken}
-use Rattle.tables.specs.declared.refusal.Broken.TheVariants.{At}
-use Rattle.tables.specs.Place.{broken_from, broken}
+use Rattle.std.specs.Prelude.{Option, Some}
+use Rattle.tables.specs.Place.{broken}
 use Rattle.tables.specs.Record.{word, words, size, is_function}
 use Rattle.tables.specs.Forest.{Forest, none, tree, first, next, forest, children, root}
 use Rattle.tables.specs.Naming.{one, Joined}
-use Rattle.tables.specs.Scratch.{Handed}
 use Rattle.tables.specs.Numbering.{is_left, manner, Visit, inside, within, visited, functions, place_of, number, enclosing, number_of, parent, uneven, misnumbered, numbering}
-use Rattle.tables.specs.Counting.{plus, own, tally, tally_left, shift, offset, start_of, base_down, caller_down, caller_word, wrong, found, Tallied, Passed}
+use Rattle.tables.specs.Counting.{plus, own, tally, tally_left, shift, offset, start_of, caller_word, wrong, found, Tallied, Passed}
 use Rattle.tables.proofs.ForestLaws.{first_onward, next_onward, forest_record, grown}
-use Rattle.tables.proofs.PlaceLaws.{rest_start, rest_at}
+use Rattle.tables.proofs.PlaceLaws.{rest_start, rest_at, alike_from}
 use Rattle.tables.proofs.NamingLaws.{one_same, one_other}
 use Rattle.tables.proofs.TreeLaws.{over, occurs, head, head_forest, tree_once, tree_count}
 use Rattle.tables.proofs.HandLaws.{first_inside, next_inside}
@@ -36,6 +34,19 @@ place_skip x (u ∷ pre) v vs z e = go (ℕ_discrete x u.met) (place_skip x pre 
     go : Dec (x ≡ u.met) → place_of x (pre ++ (v ∷ vs)) ≡ length pre → cond (eqb x u.met) 0 (suc (place_of x (pre ++ (v ∷ vs)))) ≡ suc (length pre)
     go (yes q) ih = absurd (omega (arith, subst (λ y. one x y ≡ 1) q (one_same x)))
     go (no d) ih = rw (ne_eqb x u.met d) (ap suc ih)
+
+-- as many functions as the counts say
+total : (recs all : List ℕ) → Joined recs → size recs ≤ 4096 → Tallied tally recs all → length (functions recs) ≡ plus (own (words recs 0)) (get_or all (first recs 0) 0)
+unfolding tally
+total recs all j few counts =
+    omega (
+      arith,
+      (lengths (root recs) 0).whole,
+      tally_count (root recs),
+      tree_count recs j,
+      tallied_link tally recs tally_none all 0 _ j.some counts
+          (first_onward recs 0),
+    )
 
 module _ (recs all left up base by : List ℕ) (j : Joined recs) (few : size recs ≤ 4096) (P : Passed recs all left up base by) where
   abbrev F : List Visit
@@ -211,19 +222,6 @@ module _ (recs all left up base by : List ℕ) (j : Joined recs) (few : size rec
   here_at : (x : ℕ) → x < size recs → Here x
   here_at x h = find (root recs) everywhere x (omega (arith, tree_once recs j x h))
 
-  -- as many functions as the counts say
-  pub total : length F ≡ plus (own (words recs 0)) (get_or all (first recs 0) 0)
-  unfolding tally
-  total =
-      omega (
-        arith,
-        (lengths (root recs) 0).whole,
-        tally_count (root recs),
-        tree_count recs j,
-        tallied_link tally recs tally_none all 0 _ j.some P.counts
-            (first_onward recs 0),
-      )
-
   module _ (r : ℕ) (inside-table : r < size recs) (fn : is_function (words recs r) ≡ true) where
     abbrev self : Here r
     self = here_at r inside-table
@@ -282,51 +280,31 @@ module _ (recs all left up base by : List ℕ) (j : Joined recs) (few : size rec
       go false q = refl
 
 -- two rules that agree at every place are broken at the same place first
-same_from : (bad bad' : ℕ → Bool) (i n : ℕ) → ((k : ℕ) → i ≤ k → k < i + n → bad k ≡ bad' k) → broken_from bad i n ≡ broken_from bad' i n
-unfolding broken_from
-same_from bad bad' i zero h = refl
-same_from bad bad' i (suc n) h = rw (h i (omega arith) (omega arith), same_from bad bad' (suc i) n (λ k p q. h k (omega arith) (omega arith))) refl
-
 broken_same : (bad bad' : ℕ → Bool) (n : ℕ) → ((k : ℕ) → k < n → bad k ≡ bad' k) → broken bad n ≡ broken bad' n
-broken_same bad bad' n h = same_from bad bad' 0 n (λ k p q. h k (omega arith))
+broken_same bad bad' n h = alike_from bad bad' 0 n (λ k p q. h k (omega arith))
 
-module _ (recs funs all left up base by : List ℕ) (j : Joined recs) (few : size recs ≤ 4096) (P : Passed recs all left up base by) where
-  abbrev bad : ℕ → Bool
-  bad r = (eqb r 0 && uneven recs funs) || misnumbered recs funs r
+abbrev bad : List ℕ → List ℕ → ℕ → Bool
+bad recs funs r = (eqb r 0 && uneven recs funs) || misnumbered recs funs r
 
+module _ (recs funs all : List ℕ) (j : Joined recs) (few : size recs ≤ 4096) (counts : Tallied tally recs all) (t : ℕ) (e : t ≡ plus (own (words recs 0)) (get_or all (first recs 0) 0)) where
   -- table 5 has another length
-  pub numbering_uneven : (t : ℕ) → t ≡ plus (own (words recs 0)) (get_or all (first recs 0) 0) → (length funs / 2 ≡ t → ⊥) → At 0 ≡ numbering recs funs
-  numbering_uneven t e d = sym (sym (rest_start bad (size recs)) ∙ rest_at bad (size recs) 0 j.some (rw (ne_eqb _ _ other) refl))
+  pub numbering_uneven : (length funs / 2 ≡ t → ⊥) → Some 0 ≡ numbering recs funs
+  numbering_uneven d = sym (sym (rest_start (bad recs funs) (size recs)) ∙ rest_at (bad recs funs) (size recs) 0 j.some (rw (ne_eqb _ _ other) refl))
     where
       other : length funs / 2 ≡ length (functions recs) → ⊥
-      other z = d (z ∙ total recs all left up base by j few P ∙ sym e)
+      other z = d (z ∙ total recs all j few counts ∙ sym e)
 
   -- table 5 has the right length: the first wrong Function is the place
-  pub numbering_even : (t : ℕ) (b : Broken) → t ≡ plus (own (words recs 0)) (get_or all (first recs 0) 0) → length funs / 2 ≡ t
-      → b ≡ broken (found recs funs all left up base by) (size recs) → b ≡ numbering recs funs
-  numbering_even t b e q p =
+  pub numbering_even : (left up base by : List ℕ) → Passed recs all left up base by → length funs / 2 ≡ t
+      → (b : Option ℕ) → b ≡ broken (found recs funs all left up base by) (size recs) → b ≡ numbering recs funs
+  numbering_even left up base by P q b p =
       p
-      ∙ broken_same (found recs funs all left up base by) bad (size recs)
+      ∙ broken_same (found recs funs all left up base by) (bad recs funs) (size recs)
       (λ r h. wrong_is recs all left up base by j few P funs r h ∙ also (eqb r 0) (misnumbered recs funs r))
     where
       even : uneven recs funs ≡ false
-      even = ap not (eq-eqb _ _ (q ∙ e ∙ sym (total recs all left up base by j few P)))
+      even = ap not (eq-eqb _ _ (q ∙ e ∙ sym (total recs all j few counts)))
 
       also : (a b : Bool) → b ≡ (a && uneven recs funs) || b
       also true b = rw even refl
       also false b = refl
-
-pub passed : (recs all left up base by : List ℕ) (n : ℕ) → n ≡ size recs → Tallied tally recs all → Tallied tally_left recs left → Handed (λ r v. r) recs 0 n up
-    → Handed (base_down recs all left up) recs 0 n base → Handed (caller_down recs all left up base) recs 0 n by → Passed recs all left up base by
-passed recs all left up base by n e t l u b c =
-    record {
-      counts = t;
-      lefts = l;
-      parents = subst (λ z. Handed (λ r v. r) recs 0 z up) e u;
-      bases = subst (λ z. Handed (base_down recs all left up) recs 0 z base) e b;
-      callers = subst (λ z. Handed (caller_down recs all left up base) recs 0 z by) e c;
-    }
-
-pub total_turn : (recs all : List ℕ) (f o t : ℕ) → f ≡ first recs 0 → o ≡ own (words recs 0) → t ≡ plus o (get_or all f 0) → t ≡ plus (own (words recs 0)) (get_or all
-    (first recs 0) 0)
-total_turn recs all f o t p q e = e ∙ rw (p, q) refl

@@ -2,9 +2,8 @@
 use mathlib.Core.Path.{◌≡◌, refl}
 use mathlib.Core.List.{List, [], ◌∷◌, ◌++◌}
 use Prim.Native.Nat.{ℕ}
-use Rattle.tables.specs.declared.refusal.Broken.TheVariants.{Nowhere, At}
+use Rattle.std.specs.Prelude.{None, Some}
 use Rattle.tables.specs.Forest.{forest, grow, first, next, guarded}
-use Rattle.tables.specs.Place.{broken_from}
 use Rattle.tables.specs.Naming.{naming, named_by, one}
 use Rattle.tables.specs.Nesting.{level}
 use Rattle.tables.specs.Numbering.{visited, manner, numbering}
@@ -27,24 +26,24 @@ five : List ℕ
 five = 4294967295 ∷ 0 ∷ 0 ∷ 0 ∷ 0 ∷ 0 ∷ 0 ∷ 0 ∷ 0 ∷ 0 ∷ []
 
 -- the rights, then the Lefts from the last to the first
-in_visiting_order : numbering (multi 4 3 1 2) five ≡ Nowhere
-unfolding rec multi five forest grow first next guarded broken_from visited manner
+in_visiting_order : numbering (multi 4 3 1 2) five ≡ None
+unfolding rec multi five forest grow first next guarded visited manner
 in_visiting_order = refl
 
-in_text_order : numbering (multi 1 2 3 4) five ≡ At 7
-unfolding rec multi five forest grow first next guarded broken_from visited manner
+in_text_order : numbering (multi 1 2 3 4) five ≡ Some 7
+unfolding rec multi five forest grow first next guarded visited manner
 in_text_order = refl
 
-well_named : naming (multi 4 3 1 2) ≡ Nowhere
-unfolding rec multi broken_from named_by one
+well_named : naming (multi 4 3 1 2) ≡ None
+unfolding rec multi named_by one
 well_named = refl
 
 deepest : level (multi 4 3 1 2) 7 ≡ 6
 unfolding rec multi forest grow first next guarded
 deepest = refl
 
-too_short : numbering (multi 4 3 1 2) (4294967295 ∷ 0 ∷ []) ≡ At 0
-unfolding rec multi forest grow first next guarded broken_from visited manner
+too_short : numbering (multi 4 3 1 2) (4294967295 ∷ 0 ∷ []) ≡ Some 0
+unfolding rec multi forest grow first next guarded visited manner
 too_short = refl
 
 -- a[fn] = fn with a Function in the right one: the right side first, and each inside the function around it
@@ -54,10 +53,10 @@ nested =
     ++ rec 34 1 0 0 5 8 ++ rec 2 0 0 0 0 6 ++ rec 5 0 0 0 7 0 ++ rec 30 0 3 4294967295 0 0
     ++ rec 5 0 0 0 9 0 ++ rec 30 0 1 4294967295 10 0 ++ rec 31 0 0 0 0 11 ++ rec 4 0 0 0 12 0 ++ rec 5 0 0 0 13 0 ++ rec 30 0 2 4294967295 0 0
 
-right_first : numbering nested (4294967295 ∷ 0 ∷ 0 ∷ 0 ∷ 1 ∷ 0 ∷ 0 ∷ 0 ∷ []) ≡ Nowhere
-unfolding rec nested forest grow first next guarded broken_from visited manner
+right_first : numbering nested (4294967295 ∷ 0 ∷ 0 ∷ 0 ∷ 1 ∷ 0 ∷ 0 ∷ 0 ∷ []) ≡ None
+unfolding rec nested forest grow first next guarded visited manner
 right_first = refl
 
-wrong_parent : numbering nested (4294967295 ∷ 0 ∷ 0 ∷ 0 ∷ 0 ∷ 0 ∷ 0 ∷ 0 ∷ []) ≡ At 13
-unfolding rec nested forest grow first next guarded broken_from visited manner
+wrong_parent : numbering nested (4294967295 ∷ 0 ∷ 0 ∷ 0 ∷ 0 ∷ 0 ∷ 0 ∷ 0 ∷ []) ≡ Some 13
+unfolding rec nested forest grow first next guarded visited manner
 wrong_parent = refl

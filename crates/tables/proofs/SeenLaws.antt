@@ -7,15 +7,15 @@ use Prim.Native.Nat.{ℕ, zero, suc, ◌+◌, ◌≤◌, ◌<◌}
 use native.Mathlib.Numerals.{add-one}
 use native.Mathlib.Omega.{arith}
 use native.Mathlib.Decide.{ℕ_discrete}
-use lib.ListN.{length, get_or, set, drop, replicate, length-set, length-replicate, get_or-replicate}
-use lib.Seq.{get_or-set_same, get_or-set_other, set_out, drop-cons}
+use lib.ListN.{length, get_or, set, replicate, length-set, length-replicate, get_or-replicate}
+use lib.Seq.{get_or-set_same, get_or-set_other, set_out}
 use lib.Dec.{ltb, eqb}
 use borrow.Author.Tests.{le-ltb, lt-ltb, eq-eqb, ne_eqb, eqb-true, eqb-false}
-use Rattle.tables.specs.declared.refusal.Broken.{Broken}
-use Rattle.tables.specs.declared.refusal.Broken.TheVariants.{Nowhere, At}
+use Rattle.std.specs.Prelude.{Option, None, Some}
 use Rattle.tables.specs.Semantic.{text_of}
 use Rattle.tables.specs.Entries.{or_else, found, same_list, same_string, equal_earlier, twice}
-use Rattle.tables.specs.Seen.{last, mixed, hash, hash_at, bucket, bucket_at, Chained, symbol_at, Stamped}
+use Rattle.tables.specs.declared.strings.Chains.{Chains}
+use Rattle.tables.specs.Seen.{last, hash, hash_at, bucket, bucket_at, Chained, symbol_at, Stamped}
 use Rattle.tables.proofs.PlaceLaws.{rest, rest_on, rest_at, rest_end, rest_start}
 use Rattle.tables.proofs.EntriesLaws.{rest_cut}
 use Rattle.tables.proofs.SemanticLaws.{split}
@@ -25,13 +25,13 @@ module _ (bad : ℕ → Bool) (i n : ℕ) (h : i ≤ n) where
   parted : rest bad (suc n) i ≡ or_else (rest bad n i) (rest bad (suc n) n)
   parted = rest_cut bad (suc n) n i h (omega arith)
 
-  found_last : (x : Broken) → found (or_else x (At n)) ≡ true
-  found_last Nowhere = refl
-  found_last (At j) = refl
+  found_last : (x : Option ℕ) → found (or_else x (Some n)) ≡ true
+  found_last None = refl
+  found_last (Some j) = refl
 
-  same_left : (x : Broken) → or_else x Nowhere ≡ x
-  same_left Nowhere = refl
-  same_left (At j) = refl
+  same_left : (x : Option ℕ) → or_else x None ≡ x
+  same_left None = refl
+  same_left (Some j) = refl
 
   any_hit : bad n ≡ true → found (rest bad (suc n) i) ≡ true
   any_hit e = ap found (parted ∙ ap (or_else (rest bad n i)) (rest_at bad (suc n) n (omega arith) e)) ∙ found_last (rest bad n i)
@@ -119,18 +119,6 @@ module _ (key : ℕ → ℕ) (seen : List ℕ) (x n : ℕ) (e : x ≡ key n) (be
   pub stamped_past : 1024 ≤ x → Stamped key seen (n + 1)
   stamped_past h = subst (λ a. Stamped key a (n + 1)) (set_out seen x (n + 1) (omega (arith, before.long))) stamped_more
 
--- a hash taken up to place i
-pub hash_next : (a : List ℕ) (i h g : ℕ) → i < length a → g ≡ mixed h (get_or a i 0) → hash g (drop (i + 1) a) ≡ hash h (drop i a)
-unfolding hash
-hash_next a i h g p e = rw (add-one i, drop-cons a i 0 p, e)
-
-pub hash_end : (a : List ℕ) (i h : ℕ) → length a ≤ i → hash h (drop i a) ≡ h
-unfolding hash
-hash_end [] zero h p = refl
-hash_end [] (suc i) h p = refl
-hash_end (x ∷ a) zero h p = absurd (omega arith)
-hash_end (x ∷ a) (suc i) h p = hash_end a i h (omega arith)
-
 -- strings that are equal have equal bytes, so equal hashes
 and_both : (t u : Bool) → t && u ≡ true → (t ≡ true) × (u ≡ true)
 and_both true u e = (refl, e)
@@ -178,27 +166,27 @@ module _ (strings bytes : List ℕ) (s : ℕ) where
     left = ap (λ x. found (rest equals x 0)) q ∙ search_last key (key s) equals n (λ e p. ap bucket (same_hash strings bytes e s p)) ∙ f;
   }
 
-  module _ (hashes heads next : List ℕ) (h : ℕ) (own : h ≡ hash_at strings bytes s) (chains : Chained (hash_at strings bytes) hashes heads next s) where
-    pub walk_start : (b c : ℕ) → b ≡ bucket h → c ≡ get_or heads b 0 → Walk c
+  module _ (chains : Chains) (h : ℕ) (own : h ≡ hash_at strings bytes s) (chained : Chained (hash_at strings bytes) chains s) where
+    pub walk_start : (b c : ℕ) → b ≡ bucket h → c ≡ get_or chains.heads b 0 → Walk c
     unfolding equal_earlier
     walk_start b c q p =
-        along s c (omega arith) (ap found (rest_start equals s)) (p ∙ chains.newest b (omega arith) ∙ ap (λ x. last key x s) (q ∙ ap bucket own))
+        along s c (omega arith) (ap found (rest_start equals s)) (p ∙ chained.newest b (omega arith) ∙ ap (λ x. last key x s) (q ∙ ap bucket own))
 
     module _ (c e : ℕ) (w : Walk c) (p : c ≡ suc e) where
       before : e < s
       before = omega (arith, w.within)
 
-      pub walk_less : (d : ℕ) → d ≡ get_or next e 0 → d < c
-      walk_less d q = omega (arith, chains.older e before, last_within key (key e) e)
+      pub walk_less : (d : ℕ) → d ≡ get_or chains.next e 0 → d < c
+      walk_less d q = omega (arith, chained.older e before, last_within key (key e) e)
 
-      module _ (t : Bool) (told : get_or hashes e 0 ≡ hash_at strings bytes e → h ≡ hash_at strings bytes s → t ≡ equals e) where
+      module _ (t : Bool) (told : get_or chains.hashes e 0 ≡ hash_at strings bytes e → h ≡ hash_at strings bytes s → t ≡ equals e) where
         right : t ≡ equals e
-        right = told (chains.hashed e before) own
+        right = told (chained.hashed e before) own
 
-        pub walk_on : t ≡ false → (d : ℕ) → d ≡ get_or next e 0 → Walk d
+        pub walk_on : t ≡ false → (d : ℕ) → d ≡ get_or chains.next e 0 → Walk d
         walk_on f d q =
             along e d (omega (arith, before)) (sym (ap (λ x. found (rest equals x 0)) p ∙ any_miss equals 0 e (omega arith) (sym right ∙ f)) ∙ w.left)
-            (q ∙ chains.older e before ∙ ap (λ x. last key x e) (w.bucketed e p))
+            (q ∙ chained.older e before ∙ ap (λ x. last key x e) (w.bucketed e p))
 
         pub walk_hit : t ≡ true → true ≡ equal_earlier strings bytes s
         walk_hit f = sym (ap (λ x. found (rest equals x 0)) p ∙ any_hit equals 0 e (omega arith) (sym right ∙ f)) ∙ w.left
@@ -208,7 +196,7 @@ module _ (strings bytes : List ℕ) (s : ℕ) where
 
 -- one string more in the chains
 module _ (key : ℕ → ℕ) where
-  pub chained_none : Chained key (replicate 1024 0) (replicate 1024 0) (replicate 1024 0) 0
+  pub chained_none : Chained key (record { hashes = replicate 1024 0; heads = replicate 1024 0; next = replicate 1024 0 }) 0
   unfolding last
   chained_none = record {
     hashes_long = length-replicate {A = ℕ} 1024 0;
@@ -219,7 +207,16 @@ module _ (key : ℕ → ℕ) where
     older = λ e h. absurd (omega arith);
   }
 
-  module _ (hashes heads next : List ℕ) (s h b : ℕ) (few : s < 1024) (e : h ≡ key s) (q : b ≡ bucket h) (before : Chained key hashes heads next s) where
+  module _ (chains : Chains) (s h b : ℕ) (few : s < 1024) (e : h ≡ key s) (q : b ≡ bucket h) (before : Chained key chains s) where
+    abbrev hashes : List ℕ
+    hashes = chains.hashes
+
+    abbrev heads : List ℕ
+    heads = chains.heads
+
+    abbrev next : List ℕ
+    next = chains.next
+
     own : b ≡ bucket_at key s
     own = q ∙ ap bucket e
 
@@ -230,7 +227,7 @@ module _ (key : ℕ → ℕ) where
         go (yes z) = rw z (get_or-set_same a s v 0 (omega arith) ∙ p)
         go (no d) = get_or-set_other a s x v 0 d ∙ g x (omega arith)
 
-    pub chained_more : Chained key (set hashes s h) (set heads b (s + 1)) (set next s (get_or heads b 0)) (s + 1)
+    pub chained_more : Chained key (record { hashes = set hashes s h; heads = set heads b (s + 1); next = set next s (get_or heads b 0) }) (s + 1)
     chained_more = record {
       hashes_long = length-set hashes s h ∙ before.hashes_long;
       heads_long = length-set heads b (s + 1) ∙ before.heads_long;

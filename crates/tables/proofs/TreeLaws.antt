@@ -7,7 +7,7 @@ use Prim.Native.Nat.{ℕ, zero, suc, ◌+◌, ◌≤◌, ◌<◌}
 use native.Mathlib.Omega.{arith}
 use native.Mathlib.Decide.{ℕ_discrete}
 use lib.Dec.{T, ltb, lt→ltb}
-use Rattle.tables.specs.declared.refusal.Broken.TheVariants.{Nowhere}
+use Rattle.std.specs.Prelude.{None}
 use Rattle.tables.specs.Record.{word, size}
 use Rattle.tables.specs.Forest.{Forest, none, tree, guarded, first, next, forest, children, root, count}
 use Rattle.tables.specs.Naming.{one, named_by, naming, Lawful, Joined}
@@ -213,7 +213,7 @@ module _ (recs : List ℕ) where
 
 -- row 7 in the form that the checks answer it
 pub joined : (recs : List ℕ) → 0 < size recs → word recs 0 7 ≡ 0 → ((r : ℕ) → r < size recs → Lawful recs r (word recs r 6) × Lawful recs r (word recs r 7))
-    → naming recs ≡ Nowhere → Joined recs
+    → naming recs ≡ None → Joined recs
 joined recs s z l e = record { some = s; alone = z; lawful = l; named_once = once recs e }
 
 guarded_lawful : (r n l : ℕ) → ((l ≡ 0) ⊎ ((r < l) × (l < n))) → guarded r n l ≡ l

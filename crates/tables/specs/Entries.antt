@@ -1,20 +1,18 @@
 -- Row 3 of document 01's table 'Refused by place': "tables 1 to 6 in turn (entry)", the first place of each. Definitions only.
-use Rattle.std.specs.Prelude.{Bool, true, false, cond, not, ◌&&◌, ◌||◌, List, [], ◌∷◌, ℕ, zero, suc, ◌+◌, ◌-◌, length, get_or, leb, ltb, eqb}
-use Rattle.tables.specs.declared.refusal.Broken.{Broken}
-use Rattle.tables.specs.declared.refusal.Broken.TheVariants.{Nowhere, At}
+use Rattle.std.specs.Prelude.{Bool, true, false, cond, not, ◌&&◌, ◌||◌, List, [], ◌∷◌, ℕ, zero, suc, ◌+◌, ◌-◌, length, get_or, leb, ltb, eqb, Option, None, Some}
 use Rattle.tables.specs.Place.{broken_from, broken}
 use Rattle.tables.specs.Record.{absent}
 use Rattle.tables.specs.Semantic.{pairs, string_offset, string_length, text_of, symbol_kind, symbol_name, symbol_of, parent_of, share_start}
 
 -- "in turn": a table's place, else the next table's
-abbrev pub or_else : Broken → Broken → Broken
-or_else Nowhere b = b
-or_else (At i) b = At i
+abbrev pub or_else : Option ℕ → Option ℕ → Option ℕ
+or_else None b = b
+or_else (Some i) b = Some i
 
 -- a place was found
-abbrev pub found : Broken → Bool
-found Nowhere = false
-found (At i) = true
+abbrev pub found : Option ℕ → Bool
+found None = false
+found (Some i) = true
 
 -- equal element by element
 abbrev pub same_list : List ℕ → List ℕ → Bool
@@ -51,8 +49,8 @@ unfoldable pub parent_bad : List ℕ → ℕ → Bool
 parent_bad functions f = not (eqb (parent_of functions f) absent || ltb (parent_of functions f) (pairs functions))
 
 -- "counts not summing to the members (place: the function count)", after table 5's entries (reading 10)
-abbrev pub counts_broken : List ℕ → List ℕ → Broken
-counts_broken functions members = cond (eqb (share_start functions (pairs functions)) (length members)) Nowhere (At (pairs functions))
+abbrev pub counts_broken : List ℕ → List ℕ → Option ℕ
+counts_broken functions members = cond (eqb (share_start functions (pairs functions)) (length members)) None (Some (pairs functions))
 
 -- the start of the share that place m lies in: the last start not after m, among those of shares 0 to f
 unfoldable pub own_start : List ℕ → ℕ → ℕ → ℕ
@@ -71,23 +69,23 @@ abbrev pub own_bad : List ℕ → List ℕ → List ℕ → ℕ → Bool
 own_bad symbols functions members m = member_bad symbols members (own_start functions (pairs functions) m) m
 
 -- the first broken place of each table
-abbrev pub strings_broken : List ℕ → List ℕ → Broken
+abbrev pub strings_broken : List ℕ → List ℕ → Option ℕ
 strings_broken strings bytes = broken (string_bad strings bytes) (pairs strings)
 
-abbrev pub symbols_broken : List ℕ → List ℕ → Broken
+abbrev pub symbols_broken : List ℕ → List ℕ → Option ℕ
 symbols_broken strings symbols = broken (symbol_bad strings symbols) (pairs symbols)
 
-abbrev pub references_broken : List ℕ → List ℕ → Broken
+abbrev pub references_broken : List ℕ → List ℕ → Option ℕ
 references_broken symbols references = broken (reference_bad symbols references) (length references)
 
-abbrev pub parents_broken : List ℕ → Broken
+abbrev pub parents_broken : List ℕ → Option ℕ
 parents_broken functions = broken (parent_bad functions) (pairs functions)
 
-abbrev pub members_broken : List ℕ → List ℕ → List ℕ → Broken
+abbrev pub members_broken : List ℕ → List ℕ → List ℕ → Option ℕ
 members_broken symbols functions members = broken (own_bad symbols functions members) (length members)
 
 -- "tables 1 to 6 in turn"
-unfoldable pub entries_broken : (strings bytes symbols references functions members : List ℕ) → Broken
+unfoldable pub entries_broken : (strings bytes symbols references functions members : List ℕ) → Option ℕ
 entries_broken strings bytes symbols references functions members =
     or_else (strings_broken strings bytes)
     (or_else (symbols_broken strings symbols)

@@ -1,6 +1,5 @@
 -- Row 7 of document 01: "one but 0 not named by exactly one link". Definitions only.
-use Rattle.std.specs.Prelude.{Bool, cond, not, ◌&&◌, List, ◌⊎◌, ◌≡◌, ℕ, zero, suc, ◌+◌, ◌≤◌, ◌<◌, ltb, eqb}
-use Rattle.tables.specs.declared.refusal.Broken.{Broken}
+use Rattle.std.specs.Prelude.{Bool, cond, not, ◌&&◌, List, ◌⊎◌, ◌≡◌, ℕ, zero, suc, ◌+◌, ◌≤◌, ◌<◌, ltb, eqb, Option}
 use Rattle.tables.specs.Record.{word, size}
 use Rattle.tables.specs.Place.{broken}
 
@@ -25,7 +24,7 @@ named recs x = named_by recs x (size recs)
 abbrev pub misnamed : List ℕ → ℕ → Bool
 misnamed recs x = ltb 0 x && not (eqb (named recs x) 1)
 
-abbrev pub naming : List ℕ → Broken
+abbrev pub naming : List ℕ → Option ℕ
 naming recs = broken (misnamed recs) (size recs)
 
 -- a link word that keeps row 5, "0 for absent, else greater than the record's own number" and inside the table

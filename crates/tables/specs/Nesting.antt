@@ -1,6 +1,5 @@
 -- Row 8 of document 01: "nesting past 128 levels, record 0 being level 1". Definitions only.
-use Rattle.std.specs.Prelude.{cond, List, ℕ, suc, max, ltb, eqb}
-use Rattle.tables.specs.declared.refusal.Broken.{Broken}
+use Rattle.std.specs.Prelude.{cond, List, ℕ, suc, max, ltb, eqb, Option}
 use Rattle.tables.specs.Record.{size}
 use Rattle.tables.specs.Forest.{Forest, none, tree, root}
 use Rattle.tables.specs.Place.{broken}
@@ -15,5 +14,5 @@ abbrev pub level : List ℕ → ℕ → ℕ
 level recs x = level_in x 1 (root recs)
 
 -- "nesting past 128 levels"; the place is the lowest-numbered record on level 129 or deeper (reading 9)
-abbrev pub nesting : List ℕ → Broken
+abbrev pub nesting : List ℕ → Option ℕ
 nesting recs = broken (λ x. ltb 128 (level recs x)) (size recs)

@@ -1,7 +1,6 @@
 -- Row 9 of document 01: "functions not numbered 0, 1, .. in visiting order, table 5 of another length (place 0), or a parent that isn't the
 -- enclosing function (none for 0)". Definitions only.
-use Rattle.std.specs.Prelude.{Bool, cond, not, ◌&&◌, ◌||◌, List, [], ◌∷◌, ◌++◌, ℕ, zero, suc, ◌*◌, ◌/◌, length, get_or, eqb}
-use Rattle.tables.specs.declared.refusal.Broken.{Broken}
+use Rattle.std.specs.Prelude.{Bool, cond, not, ◌&&◌, ◌||◌, List, [], ◌∷◌, ◌++◌, ℕ, zero, suc, ◌*◌, ◌/◌, length, get_or, eqb, Option}
 use Rattle.tables.specs.declared.numbering.Manner.{Manner}
 use Rattle.tables.specs.declared.numbering.Manner.TheVariants.{Stored, RightFirst, RightThenBack}
 use Rattle.tables.specs.Record.{Words, word, words, size, absent, is_kind, is_function}
@@ -86,5 +85,5 @@ misnumbered recs funs r =
     is_function (words recs r) && not (eqb (word recs r 2) (number recs r) && eqb (get_or funs (number recs r * 2) 0) (parent recs r))
 
 -- place 0 collects table 5's length and record 0's own faults (reading 13)
-abbrev pub numbering : List ℕ → List ℕ → Broken
+abbrev pub numbering : List ℕ → List ℕ → Option ℕ
 numbering recs funs = broken (λ r. (eqb r 0 && uneven recs funs) || misnumbered recs funs r) (size recs)

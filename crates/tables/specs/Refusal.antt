@@ -1,11 +1,15 @@
 -- The numbers and places of document 01's table 'Refused by place'. Definitions only.
-use Rattle.std.specs.Prelude.{cond, ℕ, eqb}
+use Rattle.std.specs.Prelude.{cond, ℕ, eqb, Result}
 use Rattle.tables.specs.declared.refusal.RecordRule.{RecordRule}
 use Rattle.tables.specs.declared.refusal.RecordRule.TheVariants.{Detail, Link, Children, Naming, Nesting, Numbering}
 use Rattle.tables.specs.declared.refusal.RunRule.{RunRule}
 use Rattle.tables.specs.declared.refusal.RunRule.TheVariants.{Reference, Load, Store, Operator, Lengths, Path, Skipped}
 use Rattle.tables.specs.declared.refusal.Refusal.{Refusal}
 use Rattle.tables.specs.declared.refusal.Refusal.TheVariants.{Table, Space, Entry, Record, Run}
+
+-- what a check of the lent tables answers
+abbrev pub Checked : Type 0
+Checked = Result (Unit {0}) Refusal
 
 abbrev pub record_number : RecordRule → ℕ
 record_number Detail = 4

@@ -13,3 +13,7 @@ pub record Handed (down : ℕ → ℕ → ℕ) (recs : List ℕ) (v n : ℕ) (a 
   pub top : get_or a 0 0 ≡ v
   pub child : (r : ℕ) → r < n → 0 < first recs r → get_or a (first recs r) 0 ≡ down r (get_or a r 0)
   pub sibling : (r : ℕ) → r < n → 0 < next recs r → get_or a (next recs r) 0 ≡ get_or a r 0
+
+-- what is handed down is a function of the record and its value: f gives the answer of every call
+abbrev pub Computes : (ℕ → ℕ → ℕ → Type 0) → (ℕ → ℕ → ℕ) → Type 0
+Computes post f = (r v w : ℕ) → r < 4096 → post r v w → w ≡ f r v

@@ -1,5 +1,7 @@
 -- What the passes of row 3 keep of the entries that they have gone through: strings by hash, symbols by their last place. Definitions only.
-use Rattle.std.specs.Prelude.{◌≡◌, cond, List, [], ◌∷◌, ℕ, zero, suc, ◌+◌, ◌*◌, ◌%◌, ◌<◌, length, get_or, eqb}
+use Rattle.std.specs.Prelude.{◌≡◌, cond, List, ℕ, zero, suc, ◌+◌, ◌*◌, ◌%◌, ◌<◌, length, get_or, eqb}
+use Rattle.std.specs.List.{fold}
+use Rattle.tables.specs.declared.strings.Chains.{Chains}
 use Rattle.tables.specs.Semantic.{text_of}
 
 -- one more than the last place below n that has key b, 0 where none has
@@ -11,9 +13,8 @@ last key b (suc n) = cond (eqb (key n) b) (suc n) (last key b n)
 abbrev pub mixed : ℕ → ℕ → ℕ
 mixed h x = (h * 16777619 + x) % 4294967296
 
-unfoldable pub hash : ℕ → List ℕ → ℕ
-hash h [] = h
-hash h (x ∷ xs) = hash (mixed h x) xs
+abbrev pub hash : ℕ → List ℕ → ℕ
+hash h bytes = fold mixed h bytes
 
 unfoldable pub hash_at : List ℕ → List ℕ → ℕ → ℕ
 hash_at strings bytes s = hash 0 (text_of strings bytes s)
@@ -26,13 +27,13 @@ abbrev pub bucket_at : (ℕ → ℕ) → ℕ → ℕ
 bucket_at key e = bucket (key e)
 
 -- the first s entries: each one's hash, the newest of each bucket, and for each entry the one before it in its bucket
-pub record Chained (key : ℕ → ℕ) (hashes heads next : List ℕ) (s : ℕ) : Type 0 where
-  pub hashes_long : length hashes ≡ 1024
-  pub heads_long : length heads ≡ 1024
-  pub next_long : length next ≡ 1024
-  pub hashed : (e : ℕ) → e < s → get_or hashes e 0 ≡ key e
-  pub newest : (b : ℕ) → b < 1021 → get_or heads b 0 ≡ last (bucket_at key) b s
-  pub older : (e : ℕ) → e < s → get_or next e 0 ≡ last (bucket_at key) (bucket_at key e) e
+pub record Chained (key : ℕ → ℕ) (chains : Chains) (s : ℕ) : Type 0 where
+  pub hashes_long : length chains.hashes ≡ 1024
+  pub heads_long : length chains.heads ≡ 1024
+  pub next_long : length chains.next ≡ 1024
+  pub hashed : (e : ℕ) → e < s → get_or chains.hashes e 0 ≡ key e
+  pub newest : (b : ℕ) → b < 1021 → get_or chains.heads b 0 ≡ last (bucket_at key) b s
+  pub older : (e : ℕ) → e < s → get_or chains.next e 0 ≡ last (bucket_at key) (bucket_at key e) e
 
 -- the symbol at place m of the members
 abbrev pub symbol_at : List ℕ → ℕ → ℕ

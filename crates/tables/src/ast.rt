@@ -15,13 +15,11 @@ fn word(recs: &[u32], r: usize, k: usize) -> u32
     requires { k < 8 }
     ensures { result ≡ word_of recs.now r k }
 {
-    if r < recs.len() {
-        let i = r * 8 + k;
-        if i < recs.len() {
-            return recs[i];
-        }
+    if r < recs.len() && r * 8 + k < recs.len() {
+        recs[r * 8 + k]
+    } else {
+        0
     }
-    0
 }
 
 pub fn kind(recs: &[u32], r: usize) -> u32
@@ -78,14 +76,8 @@ fn link(recs: &[u32], r: usize, k: usize) -> usize
     requires { k < 8 }
     ensures { result ≡ guarded r (size_of recs.now) (word_of recs.now r k) }
 {
-    let w = word(recs, r, k);
-    let x = w as usize;
-    if r < x {
-        if x < recs.len() >> 3 {
-            return x;
-        }
-    }
-    0
+    let x = word(recs, r, k) as usize;
+    if r < x && x < size(recs) { x } else { 0 }
 }
 
 // The first child.

@@ -6,71 +6,52 @@ ghost use Rattle.tables.specs.Check.{rows_of, check_of};
 use crate::children::children;
 use crate::details::details;
 use crate::entries::entries;
-use crate::lent::lent;
+use crate::lent::{Tables, lent};
 use crate::links::links;
 use crate::naming::naming;
 use crate::nesting::nesting;
 use crate::numbering::numbering;
-use crate::refusal::{Broken, Checked, RecordRule, Refusal};
+use crate::refusal::{RecordRule, Refusal};
 use crate::semantic::pairs;
 
 // Rows 3 to 9, for tables that keep row 1.
-pub fn rows(
-    strings: &[u32],
-    bytes: &[u8],
-    symbols: &[u32],
-    references: &[u32],
-    functions: &[u32],
-    members: &[u32],
-    records: &[u32],
-) -> Checked
-    ensures { size_of records.now ≤ 4096 → 0 < size_of records.now
-        → result ≡ rows_of strings.now bytes.now symbols.now references.now
-        functions.now members.now records.now }
+pub fn rows(tables: &Tables) -> Result<(), Refusal>
+    ensures { size_of tables.now.records.now ≤ 4096 → 0 < size_of tables.now.records.now
+        → result ≡ rows_of tables.now.strings.now tables.now.bytes.now tables.now.symbols.now tables.now.references.now
+        tables.now.functions.now tables.now.members.now tables.now.records.now }
 {
-    if let Broken::At(i) = entries(strings, bytes, symbols, references, functions, members) {
-        return Checked::Refused(Refusal::Entry(i));
+    let records = tables.records;
+    if let Some(i) = entries(tables) {
+        return Err(Refusal::Entry(i));
     }
-    if let Broken::At(i) = details(records, pairs(strings)) {
-        return Checked::Refused(Refusal::Record(RecordRule::Detail, i));
+    if let Some(i) = details(records, pairs(tables.strings)) {
+        return Err(Refusal::Record(RecordRule::Detail, i));
     }
-    if let Broken::At(i) = links(records) {
-        return Checked::Refused(Refusal::Record(RecordRule::Link, i));
+    if let Some(i) = links(records) {
+        return Err(Refusal::Record(RecordRule::Link, i));
     }
-    if let Broken::At(i) = children(records) {
-        return Checked::Refused(Refusal::Record(RecordRule::Children, i));
+    if let Some(i) = children(records) {
+        return Err(Refusal::Record(RecordRule::Children, i));
     }
-    if let Broken::At(i) = naming(records) {
-        return Checked::Refused(Refusal::Record(RecordRule::Naming, i));
+    if let Some(i) = naming(records) {
+        return Err(Refusal::Record(RecordRule::Naming, i));
     }
-    if let Broken::At(i) = nesting(records) {
-        return Checked::Refused(Refusal::Record(RecordRule::Nesting, i));
+    if let Some(i) = nesting(records) {
+        return Err(Refusal::Record(RecordRule::Nesting, i));
     }
-    if let Broken::At(i) = numbering(records, functions) {
-        return Checked::Refused(Refusal::Record(RecordRule::Numbering, i));
+    if let Some(i) = numbering(records, tables.functions) {
+        return Err(Refusal::Record(RecordRule::Numbering, i));
     }
-    Checked::Accepted
+    Ok(())
 }
 
 // Row 1, then rows 3 to 9. Row 2, the output space, is the generator's.
-pub fn check(
-    strings: &[u32],
-    bytes: &[u8],
-    symbols: &[u32],
-    references: &[u32],
-    functions: &[u32],
-    members: &[u32],
-    records: &[u32],
-) -> Checked
-    ensures { result ≡ check_of strings.now bytes.now symbols.now references.now
-        functions.now members.now records.now }
+pub fn check(tables: &Tables) -> Result<(), Refusal>
+    ensures { result ≡ check_of tables.now.strings.now tables.now.bytes.now tables.now.symbols.now tables.now.references.now
+        tables.now.functions.now tables.now.members.now tables.now.records.now }
 {
-    if let Broken::At(i) = lent(
-        strings, bytes, symbols, references, functions, members, records,
-    ) {
-        return Checked::Refused(Refusal::Table(i));
+    if let Some(i) = lent(tables) {
+        return Err(Refusal::Table(i));
     }
-    rows(
-        strings, bytes, symbols, references, functions, members, records,
-    )
+    rows(tables)
 }

@@ -7,7 +7,13 @@ ghost use Rattle.tables.specs.Children.{left_property, imported as imported_of, 
 ghost use Rattle.tables.specs.Children.{rooted as rooted_of, right_children, wrong_children};
 
 use crate::ast::{detail, first, kind, next, next_word, p, size};
-use crate::refusal::Broken;
+use crate::detail::{ITEMS, PLAIN, SAFE, WITH_ALIAS};
+use crate::kind::{
+    ASSIGN, ASSIGN_MULTI, ASSIGN_OP, ASSIGN_UNPACK, BINARY, BLOCK, CALL, CASE, EFFECT, FN, FOR,
+    FUNCTION, GLO_ASSIGN, HANDLER, IDENT, IF, IMPORT, ITEM, LEFT, LIST, LIST_PATTERN, LIT,
+    LIT_PATTERN, LOOP, MATCH, MEMBER, PARAMS, PAREN, RETURN, TABLE, TABLE_PATTERN, TYPE_CHECK,
+    UNARY, WHILE,
+};
 
 // What a child may be: an expr, a pattern, or one kind.
 #[derive(Clone, Copy)]
@@ -29,27 +35,17 @@ fn belongs(class: Class, kind: u32) -> bool
     ensures { result ≡ belongs_to class kind }
 {
     match class {
-        Class::Expr => {
-            if kind < 1 {
-                return false;
-            }
-            kind <= 27
-        }
-        Class::Pattern => {
-            if kind < 35 {
-                return false;
-            }
-            kind <= 38
-        }
-        Class::Lit => kind == 1,
-        Class::Ident => kind == 2,
-        Class::Block => kind == 4,
-        Class::Function => kind == 30,
-        Class::Params => kind == 31,
-        Class::Handler => kind == 32,
-        Class::Case => kind == 33,
-        Class::Left => kind == 34,
-        Class::Item => kind == 39,
+        Class::Expr => matches!(kind, LIT..=ASSIGN_MULTI),
+        Class::Pattern => matches!(kind, LIT_PATTERN..=LIST_PATTERN),
+        Class::Lit => kind == LIT,
+        Class::Ident => kind == IDENT,
+        Class::Block => kind == BLOCK,
+        Class::Function => kind == FUNCTION,
+        Class::Params => kind == PARAMS,
+        Class::Handler => kind == HANDLER,
+        Class::Case => kind == CASE,
+        Class::Left => kind == LEFT,
+        Class::Item => kind == ITEM,
     }
 }
 
@@ -57,10 +53,7 @@ fn belongs(class: Class, kind: u32) -> bool
 fn heads(recs: &[u32], c: usize, class: Class) -> bool
     ensures { result ≡ heads_of class (from recs.now c) }
 {
-    if c == 0 {
-        return false;
-    }
-    belongs(class, kind(recs, c))
+    c != 0 && belongs(class, kind(recs, c))
 }
 
 // Stands for a child that suits no kind: a number past the table, whose kind is 0.
@@ -83,14 +76,12 @@ fn one(recs: &[u32], c: usize, class: Class) -> usize
 fn times(recs: &[u32], n: u32, c: usize, class: Class) -> usize
     ensures { Serves recs.now (Want.times n class) c result }
 {
-    let mut left = n;
     let mut at = c;
-    while 0 < left {
+    for _ in 0..n {
         if !heads(recs, at, class) {
             return stray(recs);
         }
         at = next(recs, at);
-        left -= 1;
     }
     at
 }
@@ -174,19 +165,17 @@ fn property(recs: &[u32], c: usize, m: u32) -> bool
 fn member(detail: u32) -> u32
     ensures { result ≡ member_of detail }
 {
-    if detail < 8 {
-        return detail;
-    }
-    detail - 8
+    if detail < SAFE { detail } else { detail - SAFE }
 }
 
 fn left_property(recs: &[u32], c: usize, detail: u32) -> bool
     ensures { result ≡ fits (left_property detail) (from recs.now c) }
 {
-    if detail == 0 {
-        return c == 0;
+    if detail == PLAIN {
+        c == 0
+    } else {
+        property(recs, c, detail - 1)
     }
-    property(recs, c, detail - 1)
 }
 
 // What follows an Import's path.
@@ -194,8 +183,8 @@ fn imported(recs: &[u32], c: usize, detail: u32) -> bool
     ensures { result ≡ fits (imported_of detail) (from recs.now c) }
 {
     match detail {
-        1 => only(recs, c, Class::Ident),
-        2 => any(recs, c, Class::Item) == 0,
+        WITH_ALIAS => only(recs, c, Class::Ident),
+        ITEMS => any(recs, c, Class::Item) == 0,
         _ => c == 0,
     }
 }
@@ -205,19 +194,19 @@ fn part_children(recs: &[u32], r: usize, c: usize) -> bool
     ensures { result ≡ fits (expected_part (words recs.now r)) (from recs.now c) }
 {
     match kind(recs, r) {
-        30 => both(recs, c, Class::Params, Class::Block),
-        31 => any(recs, bracket(recs, r, c, Class::Ident), Class::Ident) == 0,
-        32 => both(
+        FUNCTION => both(recs, c, Class::Params, Class::Block),
+        PARAMS => any(recs, bracket(recs, r, c, Class::Ident), Class::Ident) == 0,
+        HANDLER => both(
             recs,
             one(recs, c, Class::Ident),
             Class::Params,
             Class::Block,
         ),
-        33 => only(recs, counted(recs, r, c, Class::Pattern), Class::Expr),
-        34 => left_property(recs, one(recs, c, Class::Ident), detail(recs, r)),
-        37 => pairs(recs, c, Class::Lit, Class::Pattern) == 0,
-        38 => any(recs, c, Class::Pattern) == 0,
-        39 => bracket(recs, r, one(recs, c, Class::Ident), Class::Ident) == 0,
+        CASE => only(recs, counted(recs, r, c, Class::Pattern), Class::Expr),
+        LEFT => left_property(recs, one(recs, c, Class::Ident), detail(recs, r)),
+        TABLE_PATTERN => pairs(recs, c, Class::Lit, Class::Pattern) == 0,
+        LIST_PATTERN => any(recs, c, Class::Pattern) == 0,
+        ITEM => bracket(recs, r, one(recs, c, Class::Ident), Class::Ident) == 0,
         _ => c == 0,
     }
 }
@@ -227,12 +216,12 @@ fn store_children(recs: &[u32], r: usize, c: usize) -> bool
     ensures { result ≡ fits (expected_store (words recs.now r)) (from recs.now c) }
 {
     match kind(recs, r) {
-        22 => imported(recs, counted(recs, r, c, Class::Ident), detail(recs, r)),
-        23 => both(recs, c, Class::Ident, Class::Expr),
-        24 => both(recs, c, Class::Left, Class::Expr),
-        25 => both(recs, c, Class::Left, Class::Expr),
-        26 => only(recs, counted(recs, r, c, Class::Left), Class::Expr),
-        27 => any(recs, counted(recs, r, c, Class::Left), Class::Expr) == 0,
+        IMPORT => imported(recs, counted(recs, r, c, Class::Ident), detail(recs, r)),
+        GLO_ASSIGN => both(recs, c, Class::Ident, Class::Expr),
+        ASSIGN => both(recs, c, Class::Left, Class::Expr),
+        ASSIGN_OP => both(recs, c, Class::Left, Class::Expr),
+        ASSIGN_UNPACK => only(recs, counted(recs, r, c, Class::Left), Class::Expr),
+        ASSIGN_MULTI => any(recs, counted(recs, r, c, Class::Left), Class::Expr) == 0,
         _ => part_children(recs, r, c),
     }
 }
@@ -242,24 +231,24 @@ fn control_children(recs: &[u32], r: usize, c: usize) -> bool
     ensures { result ≡ fits (expected_control (words recs.now r)) (from recs.now c) }
 {
     match kind(recs, r) {
-        13 => {
+        CALL => {
             let last = any(recs, one(recs, c, Class::Expr), Class::Expr);
             any(recs, maybe(recs, last, Class::Function), Class::Handler) == 0
         }
-        14 => {
+        IF => {
             let block = one(recs, c, Class::Expr);
             bracket(recs, r, one(recs, block, Class::Block), Class::Expr) == 0
         }
-        15 => any(recs, one(recs, c, Class::Expr), Class::Case) == 0,
-        16 => only(recs, c, Class::Block),
-        17 => both(recs, c, Class::Expr, Class::Block),
-        18 => both(
+        MATCH => any(recs, one(recs, c, Class::Expr), Class::Case) == 0,
+        LOOP => only(recs, c, Class::Block),
+        WHILE => both(recs, c, Class::Expr, Class::Block),
+        FOR => both(
             recs,
             counted(recs, r, c, Class::Ident),
             Class::Expr,
             Class::Block,
         ),
-        21 => only(recs, c, Class::Expr),
+        RETURN => only(recs, c, Class::Expr),
         _ => store_children(recs, r, c),
     }
 }
@@ -269,13 +258,13 @@ fn kind_children(recs: &[u32], r: usize, c: usize) -> bool
     ensures { result ≡ fits (expected (words recs.now r)) (from recs.now c) }
 {
     match kind(recs, r) {
-        3 | 9 | 11 => only(recs, c, Class::Expr),
-        4 | 8 => any(recs, c, Class::Expr) == 0,
-        5 => only(recs, bracket(recs, r, c, Class::Ident), Class::Function),
-        6 => both(recs, c, Class::Ident, Class::Params),
-        7 => pairs(recs, c, Class::Expr, Class::Expr) == 0,
-        10 => both(recs, c, Class::Expr, Class::Expr),
-        12 => property(recs, one(recs, c, Class::Expr), member(detail(recs, r))),
+        PAREN | UNARY | TYPE_CHECK => only(recs, c, Class::Expr),
+        BLOCK | LIST => any(recs, c, Class::Expr) == 0,
+        FN => only(recs, bracket(recs, r, c, Class::Ident), Class::Function),
+        EFFECT => both(recs, c, Class::Ident, Class::Params),
+        TABLE => pairs(recs, c, Class::Expr, Class::Expr) == 0,
+        BINARY => both(recs, c, Class::Expr, Class::Expr),
+        MEMBER => property(recs, one(recs, c, Class::Expr), member(detail(recs, r))),
         _ => control_children(recs, r, c),
     }
 }
@@ -283,35 +272,18 @@ fn kind_children(recs: &[u32], r: usize, c: usize) -> bool
 fn rooted(recs: &[u32]) -> bool
     ensures { result ≡ rooted_of recs.now }
 {
-    if kind(recs, 0) == 30 {
-        return next_word(recs, 0) == 0;
-    }
-    false
+    kind(recs, 0) == FUNCTION && next_word(recs, 0) == 0
 }
 
 fn children_ok(recs: &[u32], r: usize) -> bool
     ensures { result ≡ right_children recs.now r }
 {
-    if kind_children(recs, r, first(recs, r)) {
-        if r == 0 {
-            return rooted(recs);
-        }
-        return true;
-    }
-    false
+    kind_children(recs, r, first(recs, r)) && (r != 0 || rooted(recs))
 }
 
 // The first record whose children are not those of its kind; record 0 is a Function and has no sibling.
-pub fn children(recs: &[u32]) -> Broken
+pub fn children(recs: &[u32]) -> Option<usize>
     ensures { result ≡ broken (wrong_children recs.now) (size_of recs.now) }
 {
-    let n = size(recs);
-    let mut r: usize = 0;
-    while r < n {
-        if !children_ok(recs, r) {
-            return Broken::At(r);
-        }
-        r += 1;
-    }
-    Broken::Nowhere
+    (0..size(recs)).find(|&r| !children_ok(recs, r))
 }

@@ -5,23 +5,16 @@ ghost use Rattle.tables.specs.Place.{broken};
 ghost use Rattle.tables.specs.Details.{of_kind, known_kind, details as details_of, right_number, known_detail, right_lit, right_words, right_detail, wrong_detail};
 
 use crate::ast::{detail, kind, p, q, size};
-use crate::refusal::Broken;
-
-const NONE: u32 = 4_294_967_295;
+use crate::kind::{
+    ASSIGN_MULTI, ASSIGN_OP, BINARY, EFFECT, FN, FUNCTION, IDENT, IDENT_PATTERN, IF, IMPORT, ITEM,
+    LEFT, LIST_PATTERN, LIT, LIT_PATTERN, MEMBER, PARAMS, TABLE_PATTERN, TYPE_CHECK, UNARY,
+};
+use crate::semantic::NONE;
 
 fn known_kind(kind: u32) -> bool
     ensures { result ≡ known_kind kind }
 {
-    if kind < 1 {
-        return false;
-    }
-    if kind <= 27 {
-        return true;
-    }
-    if kind < 30 {
-        return false;
-    }
-    kind <= 39
+    matches!(kind, LIT..=ASSIGN_MULTI | FUNCTION..=ITEM)
 }
 
 // How many details a kind has, 0 if it names none.
@@ -29,74 +22,50 @@ fn detail_count(kind: u32) -> u32
     ensures { result ≡ of_kind kind details_of 0 }
 {
     match kind {
-        1 => 6,
-        5 => 2,
-        9 => 2,
-        10 => 14,
-        11 => 10,
-        12 => 14,
-        14 => 2,
-        22 => 4,
-        25 => 14,
-        30 => 3,
-        31 => 2,
-        34 => 7,
-        35 => 6,
-        37 => 2,
-        38 => 2,
-        39 => 2,
+        LIT => 6,
+        FN => 2,
+        UNARY => 2,
+        BINARY => 14,
+        TYPE_CHECK => 10,
+        MEMBER => 14,
+        IF => 2,
+        IMPORT => 4,
+        ASSIGN_OP => 14,
+        FUNCTION => 3,
+        PARAMS => 2,
+        LEFT => 7,
+        LIT_PATTERN => 6,
+        TABLE_PATTERN => 2,
+        LIST_PATTERN => 2,
+        ITEM => 2,
         _ => 0,
     }
 }
 
-// Detail d of kind k, which has n of them.
+// Detail d of kind k, which has n of them. A Member's details are 0 to 5 and, if safe, 8 to 13.
 fn right_number(k: u32, d: u32, n: u32) -> bool
     ensures { result ≡ right_number k d n }
 {
-    if n == 0 {
-        return true;
-    }
-    if n <= d {
-        return false;
-    }
-    if k != 12 {
-        return true;
-    }
-    // A Member's details are 0 to 5 and, if safe, 8 to 13.
-    if d < 6 {
-        return true;
-    }
-    if d < 8 {
-        return false;
-    }
-    true
+    n == 0 || (d < n && !(k == MEMBER && 6 <= d && d <= 7))
 }
 
 fn known_detail(recs: &[u32], r: usize) -> bool
     ensures { result ≡ known_detail (words recs.now r) }
 {
     let k = kind(recs, r);
-    let d = detail(recs, r);
-    let n = detail_count(k);
-    right_number(k, d, n)
+    right_number(k, detail(recs, r), detail_count(k))
 }
 
 // A Bool is 0 or 1; Str and Bytes are one of n strings.
 fn right_lit(recs: &[u32], n: usize, r: usize) -> bool
     ensures { result ≡ right_lit n (words recs.now r) }
 {
-    let d = detail(recs, r);
     let x = p(recs, r);
-    if d == 1 {
-        return x < 2;
+    match detail(recs, r) {
+        1 => x < 2,
+        4 | 5 => (x as usize) < n,
+        _ => true,
     }
-    if d == 4 {
-        return (x as usize) < n;
-    }
-    if d == 5 {
-        return (x as usize) < n;
-    }
-    true
 }
 
 fn right_words(recs: &[u32], n: usize, r: usize) -> bool
@@ -104,41 +73,24 @@ fn right_words(recs: &[u32], n: usize, r: usize) -> bool
 {
     let name = q(recs, r);
     match kind(recs, r) {
-        1 | 35 => right_lit(recs, n, r),
-        2 | 22 | 36 => (name as usize) < n,
-        6 => (p(recs, r) as usize) < n,
-        30 => {
-            if name == NONE {
-                return true;
-            }
-            (name as usize) < n
-        }
+        LIT | LIT_PATTERN => right_lit(recs, n, r),
+        IDENT | IMPORT | IDENT_PATTERN => (name as usize) < n,
+        EFFECT => (p(recs, r) as usize) < n,
+        FUNCTION => name == NONE || (name as usize) < n,
         _ => true,
     }
 }
 
+#[tactic(auto, unfolding(crate::specs::Details::right_detail))]
 fn right_detail(recs: &[u32], n: usize, r: usize) -> bool
     ensures { result ≡ right_detail n (words recs.now r) }
 {
-    if known_kind(kind(recs, r)) {
-        if known_detail(recs, r) {
-            return right_words(recs, n, r);
-        }
-    }
-    false
+    known_kind(kind(recs, r)) && known_detail(recs, r) && right_words(recs, n, r)
 }
 
 // The first record of an unknown kind or detail, with a string out of range, or with a Bool other than 0 and 1.
-pub fn details(recs: &[u32], strings: usize) -> Broken
+pub fn details(recs: &[u32], strings: usize) -> Option<usize>
     ensures { result ≡ broken (wrong_detail recs.now strings) (size_of recs.now) }
 {
-    let n = size(recs);
-    let mut r: usize = 0;
-    while r < n {
-        if !right_detail(recs, strings, r) {
-            return Broken::At(r);
-        }
-        r += 1;
-    }
-    Broken::Nowhere
+    (0..size(recs)).find(|&r| !right_detail(recs, strings, r))
 }

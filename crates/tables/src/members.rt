@@ -1,12 +1,10 @@
 // Row 3, table 6: each function's share of the members, in turn.
 ghost use Rattle.std.specs.Prelude.{◌≡◌, ℕ, ◌+◌, ◌-◌, ◌<◌, ◌≤◌};
-ghost use Rattle.tables.specs.declared.refusal.Broken.TheVariants.{Nowhere};
+ghost use Rattle.std.specs.Prelude.{None};
 ghost use Rattle.tables.specs.Place.{broken_from};
 ghost use Rattle.tables.specs.Entries.{twice as twice_of, member_bad, members_broken};
 ghost use Rattle.tables.specs.Seen.{symbol_at, Stamped};
 
-use crate::refusal::Broken;
-use crate::scratch::wide;
 use crate::semantic::{add_count, entry, member_count, pairs};
 
 // The symbol at m stands earlier in its share.
@@ -14,14 +12,7 @@ fn twice(members: &[u32], start: usize, m: usize) -> bool
     ensures { result ≡ twice_of members.now start m }
 {
     let symbol = entry(members, m);
-    let mut e: usize = start;
-    while e < m {
-        if entry(members, e) == symbol {
-            return true;
-        }
-        e += 1;
-    }
-    false
+    (start..m).any(|e| entry(members, e) == symbol)
 }
 
 // The same by the stamps of what stands before m, one more than the last place of each symbol; row 1 lets through no more than 1,024 of either.
@@ -30,33 +21,27 @@ fn stamped_twice(members: &[u32], seen: &[u16; 1024], start: usize, symbol: usiz
     requires stamped { (m < 1024 → Stamped (symbol_at members.now) seen.now m) }
     ensures { result ≡ twice_of members.now start m }
 {
-    if m < 1024 {
-        if symbol < 1024 {
-            return start < wide(seen[symbol]);
-        }
+    if m < 1024 && symbol < 1024 {
+        return start < seen[symbol] as usize;
     }
     twice(members, start, m)
 }
 
+#[tactic(auto, unfolding(crate::specs::Entries::member_bad))]
 fn member_bad(symbols: &[u32], members: &[u32], seen: &[u16; 1024], start: usize, m: usize) -> bool
     requires { m < 1024 → Stamped (symbol_at members.now) seen.now m }
     ensures { result ≡ member_bad symbols.now members.now start m }
 {
     let symbol = entry(members, m) as usize;
-    if pairs(symbols) <= symbol {
-        return true;
-    }
-    stamped_twice(members, seen, start, symbol, m)
+    pairs(symbols) <= symbol || stamped_twice(members, seen, start, symbol, m)
 }
 
 // Notes that the symbol stands at m.
 fn stamp(seen: &mut [u16; 1024], symbol: usize, m: usize)
     ensures { (key : ℕ → ℕ) → m < 1024 → symbol ≡ key m → Stamped key seen.old m → Stamped key seen.new (m + 1) }
 {
-    if m < 1024 {
-        if symbol < 1024 {
-            seen[symbol] = m as u16 + 1;
-        }
+    if m < 1024 && symbol < 1024 {
+        seen[symbol] = m as u16 + 1;
     }
 }
 
@@ -67,38 +52,32 @@ fn share_broken(
     seen: &mut [u16; 1024],
     start: usize,
     end: usize,
-) -> Broken
+) -> Option<usize>
     requires { start < 1024 → Stamped (symbol_at members.now) seen.old start }
     ensures value { result ≡ broken_from (member_bad symbols.now members.now start) start (end - start) }
-    ensures stamped { result ≡ Nowhere → start ≤ end → end < 1024 → Stamped (symbol_at members.now) seen.new end }
+    ensures stamped { result ≡ None → start ≤ end → end < 1024 → Stamped (symbol_at members.now) seen.new end }
 {
-    let mut m: usize = start;
-    while m < end {
+    for m in start..end {
         if member_bad(symbols, members, seen, start, m) {
-            return Broken::At(m);
+            return Some(m);
         }
         stamp(seen, entry(members, m) as usize, m);
-        m += 1;
     }
-    Broken::Nowhere
+    None
 }
 
 // The shares in turn, then what the counts leave over.
-pub fn members_broken(symbols: &[u32], functions: &[u32], members: &[u32]) -> Broken
+pub fn members_broken(symbols: &[u32], functions: &[u32], members: &[u32]) -> Option<usize>
     ensures { result ≡ members_broken symbols.now functions.now members.now }
 {
-    let n = pairs(functions);
     let mut seen = [0u16; 1024];
     let mut start: usize = 0;
-    let mut f: usize = 0;
-    while f < n {
-        let count = member_count(functions, f);
-        let end = add_count(start, count, members.len());
-        if let Broken::At(m) = share_broken(symbols, members, &mut seen, start, end) {
-            return Broken::At(m);
+    for f in 0..pairs(functions) {
+        let end = add_count(start, member_count(functions, f), members.len());
+        if let Some(m) = share_broken(symbols, members, &mut seen, start, end) {
+            return Some(m);
         }
         start = end;
-        f += 1;
     }
     share_broken(symbols, members, &mut seen, start, members.len())
 }

@@ -1,16 +1,14 @@
 // Row 9: functions are numbered in visiting order, and table 5 has each one's parent.
-ghost use Rattle.std.specs.Prelude.{◌≡◌, cond, ℕ, ◌+◌, ◌-◌, ◌<◌, ◌≤◌, min, length, get_or};
-ghost use Rattle.tables.specs.Record.{word as word_of, words, size as size_of};
+ghost use Rattle.std.specs.Prelude.{◌≡◌, ◌<◌, ◌≤◌, get_or, replicate};
+ghost use Rattle.tables.specs.Record.{words, size as size_of};
 ghost use Rattle.tables.specs.Naming.{Joined};
 ghost use Rattle.tables.specs.Scratch.{Handed};
-ghost use Rattle.tables.specs.Numbering.{manner as manner_by, is_left, numbering as numbering_of};
+ghost use Rattle.tables.specs.Numbering.{manner as manner_by, numbering as numbering_of};
 ghost use Rattle.tables.specs.Counting.{plus as plus_of, own as own_of, shift as shift_of, offset as offset_of, tally, tally_left, Tallied};
-ghost use Rattle.tables.specs.Counting.{start_of, base_down, caller_down, caller_word, wrong, found};
-ghost use Rattle.tables.specs.Place.{broken};
+ghost use Rattle.tables.specs.Counting.{start_of, base_down, caller_down, caller_word, wrong};
 
-use crate::refusal::Broken;
-use crate::scratch::wide;
-use crate::{ast, scratch};
+use crate::semantic::NONE;
+use crate::{ast, kind, scratch};
 
 // How a record's children are visited.
 #[derive(Clone, Copy)]
@@ -24,9 +22,8 @@ fn manner_of(kind: u32) -> Manner
     ensures { result ≡ manner_by kind }
 {
     match kind {
-        27 => Manner::RightThenBack,
-        24 => Manner::RightFirst,
-        26 => Manner::RightFirst,
+        kind::ASSIGN_MULTI => Manner::RightThenBack,
+        kind::ASSIGN | kind::ASSIGN_UNPACK => Manner::RightFirst,
         _ => Manner::Stored,
     }
 }
@@ -35,315 +32,173 @@ fn manner_of(kind: u32) -> Manner
 fn plus(a: u16, b: u16) -> u16
     ensures { result ≡ plus_of a b }
 {
-    if a < 4096 {
-        if b < 4096 - a {
-            return a + b;
-        }
-    }
-    4096
-}
-
-// A difference, 0 where b is the greater.
-fn minus(a: u16, b: u16) -> u16
-    ensures { result ≡ a - b }
-{
-    if b < a { a - b } else { 0 }
+    a.saturating_add(b).min(4096)
 }
 
 // 1 for a Function, else 0.
 fn own(recs: &[u32], r: usize) -> u16
     ensures { result ≡ own_of (words recs.now r) }
 {
-    if ast::kind(recs, r) == 30 { 1 } else { 0 }
+    u16::from(ast::kind(recs, r) == kind::FUNCTION)
 }
 
-// How many functions are visited before a record, since its parent.
-fn shift(m: Manner, left: bool, t: u16, l: u16, t1: u16, l1: u16, l2: u16) -> u16
-    ensures { result ≡ shift_of m left t l t1 l1 l2 }
+// The Functions of a forest, and those in its Lefts.
+#[derive(Clone, Copy)]
+struct Count {
+    all: u16,
+    left: u16,
+}
+
+// How many functions are visited before a record, since its parent: by the counts of all its siblings, from it on, and after it.
+fn shift(manner: Manner, is_left: bool, siblings: Count, rest: Count, later: Count) -> u16
+    ensures { result ≡ shift_of manner is_left siblings.all siblings.left rest.all rest.left later.left }
 {
-    let right = minus(t, l);
-    match m {
-        Manner::Stored => minus(t, t1),
-        Manner::RightFirst => if left {
-            plus(right, minus(l, l1))
+    let right = siblings.all.saturating_sub(siblings.left);
+    match manner {
+        Manner::Stored => siblings.all.saturating_sub(rest.all),
+        Manner::RightFirst if is_left => plus(right, siblings.left.saturating_sub(rest.left)),
+        Manner::RightThenBack if is_left => plus(right, later.left),
+        _ => right.saturating_sub(rest.all.saturating_sub(rest.left)),
+    }
+}
+
+// The Functions of each record's forest: in the record, below it, and in its later siblings. And the same in Lefts alone.
+fn tallied(recs: &[u32], all: &mut [u16; 4096], left: &mut [u16; 4096])
+    requires small { size_of recs.now ≤ 4096 }
+    requires all { all.old ≡ replicate 4096 0 }
+    requires left { left.old ≡ replicate 4096 0 }
+    ensures all { Tallied tally recs.now all.new }
+    ensures left { Tallied tally_left recs.now left.new }
+{
+    for r in (1..ast::size(recs)).rev() {
+        let later = ast::next(recs, r);
+        let whole = plus(own(recs, r), all[ast::first(recs, r)]);
+        all[r] = plus(whole, all[later]);
+        left[r] = if ast::kind(recs, r) == kind::LEFT {
+            plus(whole, left[later])
         } else {
-            minus(right, minus(t1, l1))
-        },
-        Manner::RightThenBack => if left {
-            plus(right, l2)
-        } else {
-            minus(right, minus(t1, l1))
-        },
+            left[later]
+        };
     }
 }
 
-// The Functions of each record's forest: in the record, below it, and in its later siblings.
-fn tallied(recs: &[u32]) -> [u16; 4096]
-    requires { size_of recs.now ≤ 4096 }
-    ensures { Tallied tally recs.now result }
-{
-    let mut a = scratch::words();
-    let mut i = ast::size(recs);
-    while 1 < i {
-        i -= 1;
-        let f = ast::first(recs, i);
-        let g = ast::next(recs, i);
-        let x = plus(own(recs, i), a[f]);
-        a[i] = plus(x, a[g]);
+// The records with what the first passes leave of each.
+#[derive(Clone, Copy)]
+struct Counts<'r, 'a> {
+    recs: &'r [u32],
+    all: &'a [u16; 4096],
+    left: &'a [u16; 4096],
+    up: &'a [u16; 4096],
+    ghost few: { size_of recs.now ≤ 4096 },
+}
+
+impl Counts<'_, '_> {
+    fn count(&self, x: usize) -> Count
+        requires { x < 4096 }
+        ensures all { result.all ≡ get_or self.now.all.now x 0 }
+        ensures left { result.left ≡ get_or self.now.left.now x 0 }
+    {
+        Count {
+            all: self.all[x],
+            left: self.left[x],
+        }
     }
-    a
-}
 
-// x for a Left, else 0.
-fn if_left(recs: &[u32], r: usize, x: u16) -> u16
-    ensures { result ≡ cond (is_left (words recs.now r)) x 0 }
-{
-    if ast::kind(recs, r) == 34 { x } else { 0 }
-}
-
-// The same in Lefts alone.
-fn left_tallied(recs: &[u32], all: &[u16; 4096]) -> [u16; 4096]
-    requires small { size_of recs.now ≤ 4096 }
-    requires tallied { Tallied tally recs.now all.now }
-    ensures { Tallied tally_left recs.now result }
-{
-    let mut a = scratch::words();
-    let mut i = ast::size(recs);
-    while 1 < i {
-        i -= 1;
-        let f = ast::first(recs, i);
-        let g = ast::next(recs, i);
-        let x = if_left(recs, i, plus(own(recs, i), all[f]));
-        a[i] = plus(x, a[g]);
+    // How many functions are visited before record x, since its parent.
+    fn offset(&self, x: usize) -> u16
+        requires { x < 4096 }
+        ensures { let c = self.now in result ≡ offset_of c.recs.now c.all.now c.left.now c.up.now x }
+    {
+        if x == 0 {
+            return 0;
+        }
+        let parent = self.up[x] as usize;
+        let manner = manner_of(ast::kind(self.recs, parent));
+        let is_left = ast::kind(self.recs, x) == kind::LEFT;
+        let siblings = self.count(ast::first(self.recs, parent));
+        let later = self.count(ast::next(self.recs, x));
+        shift(manner, is_left, siblings, self.count(x), later)
     }
-    a
-}
 
-// The parent of each of the first n records.
-fn parents(recs: &[u32], n: usize) -> [u16; 4096]
-    requires { n ≤ 4096 }
-    ensures { n ≡ size_of recs.now → Joined recs.now → Handed (λ r v. r) recs.now 0 n result }
-{
-    let mut a = scratch::words();
-    let mut i: usize = 0;
-    while i < n {
-        let v = a[i];
-        let r = i as u16;
-        scratch::hand(&mut a, ast::first(recs, i), r);
-        scratch::hand(&mut a, ast::next(recs, i), v);
-        i += 1;
+    // Where each record's siblings begin their numbers, handed down from their parent.
+    fn bases(&self) -> [u16; 4096]
+        ensures { let c = self.now in Joined c.recs.now
+            → Handed (base_down c.recs.now c.all.now c.left.now c.up.now)
+            c.recs.now 0 (size_of c.recs.now) result }
+    {
+        scratch::handed_down(self.recs, 0, |r, v| {
+            plus(plus(v, self.offset(r)), own(self.recs, r))
+        })
     }
-    a
-}
 
-// How many functions are visited before record x, since its parent.
-fn offset(recs: &[u32], all: &[u16; 4096], left: &[u16; 4096], up: &[u16; 4096], x: usize) -> u16
-    requires small { size_of recs.now ≤ 4096 }
-    requires inside { x < 4096 }
-    ensures { result ≡ offset_of recs.now all.now left.now up.now x }
-{
-    if x == 0 {
-        return 0;
+    // Where the numbers of record x's functions begin.
+    fn start(&self, base: &[u16; 4096], x: usize) -> u16
+        requires { x < 4096 }
+        ensures { let c = self.now in
+            result ≡ start_of c.recs.now c.all.now c.left.now c.up.now base.now x }
+    {
+        plus(base[x], self.offset(x))
     }
-    let p = wide(up[x]);
-    let k = ast::first(recs, p);
-    let g = ast::next(recs, x);
-    let m = manner_of(ast::kind(recs, p));
-    let l = ast::kind(recs, x) == 34;
-    shift(m, l, all[k], left[k], all[x], left[x], left[g])
-}
 
-// Where the numbers of record x's functions begin.
-fn start(
-    recs: &[u32],
-    all: &[u16; 4096],
-    left: &[u16; 4096],
-    up: &[u16; 4096],
-    base: &[u16; 4096],
-    x: usize,
-) -> u16
-    requires small { size_of recs.now ≤ 4096 }
-    requires inside { x < 4096 }
-    ensures { result ≡ start_of recs.now all.now left.now up.now base.now x }
-{
-    plus(base[x], offset(recs, all, left, up, x))
-}
-
-// Where the numbers of the children of record r begin, for one that has a first child f.
-fn below(
-    recs: &[u32],
-    all: &[u16; 4096],
-    left: &[u16; 4096],
-    up: &[u16; 4096],
-    r: usize,
-    f: usize,
-    v: u16,
-) -> u16
-    requires small { size_of recs.now ≤ 4096 }
-    requires inside { r < 4096 }
-    ensures { 0 < f → result ≡ base_down recs.now all.now left.now up.now r v }
-{
-    if f == 0 {
-        return 0;
+    // The function around each record, one more than its number, 0 for none.
+    fn callers(&self, base: &[u16; 4096]) -> [u16; 4096]
+        ensures { let c = self.now in Joined c.recs.now
+            → Handed (caller_down c.recs.now c.all.now c.left.now c.up.now base.now)
+            c.recs.now 0 (size_of c.recs.now) result }
+    {
+        scratch::handed_down(self.recs, 0, |r, v| {
+            if ast::kind(self.recs, r) == kind::FUNCTION {
+                plus(self.start(base, r), 1)
+            } else {
+                v
+            }
+        })
     }
-    let s = plus(v, offset(recs, all, left, up, r));
-    plus(s, own(recs, r))
-}
 
-// Where each of the first n records' siblings begin their numbers, handed down from their parent.
-fn bases(
-    recs: &[u32],
-    n: usize,
-    all: &[u16; 4096],
-    left: &[u16; 4096],
-    up: &[u16; 4096],
-) -> [u16; 4096]
-    requires few { n ≤ 4096 }
-    requires small { size_of recs.now ≤ 4096 }
-    ensures { n ≡ size_of recs.now → Joined recs.now
-        → Handed (base_down recs.now all.now left.now up.now) recs.now 0 n result }
-{
-    let mut a = scratch::words();
-    let mut i: usize = 0;
-    while i < n {
-        let v = a[i];
-        let f = ast::first(recs, i);
-        let d = below(recs, all, left, up, i, f, v);
-        scratch::hand(&mut a, f, d);
-        scratch::hand(&mut a, ast::next(recs, i), v);
-        i += 1;
-    }
-    a
-}
-
-// What record r hands to its children: one more than its own number for a Function, else v.
-fn caller(
-    recs: &[u32],
-    all: &[u16; 4096],
-    left: &[u16; 4096],
-    up: &[u16; 4096],
-    base: &[u16; 4096],
-    r: usize,
-    v: u16,
-) -> u16
-    requires small { size_of recs.now ≤ 4096 }
-    requires inside { r < 4096 }
-    ensures { result ≡ caller_down recs.now all.now left.now up.now base.now r v }
-{
-    if ast::kind(recs, r) == 30 {
-        plus(start(recs, all, left, up, base, r), 1)
-    } else {
-        v
+    // A Function inside function v with another number or parent.
+    fn is_wrong(&self, base: &[u16; 4096], funs: &[u32], r: usize, v: u16) -> bool
+        requires { r < 4096 }
+        ensures { let c = self.now in result ≡ wrong c.recs.now funs.now r
+            (start_of c.recs.now c.all.now c.left.now c.up.now base.now r) v }
+    {
+        if ast::kind(self.recs, r) != kind::FUNCTION {
+            return false;
+        }
+        let start = self.start(base, r) as u32;
+        let parent = funs.get(start as usize * 2).copied().unwrap_or(0);
+        ast::p(self.recs, r) != start || parent != caller_word(v)
     }
 }
 
-// The function around each of the first n records, one more than its number, 0 for none.
-fn callers(
-    recs: &[u32],
-    n: usize,
-    all: &[u16; 4096],
-    left: &[u16; 4096],
-    up: &[u16; 4096],
-    base: &[u16; 4096],
-) -> [u16; 4096]
-    requires few { n ≤ 4096 }
-    requires small { size_of recs.now ≤ 4096 }
-    ensures { n ≡ size_of recs.now → Joined recs.now
-        → Handed (caller_down recs.now all.now left.now up.now base.now) recs.now 0 n result }
-{
-    let mut a = scratch::words();
-    let mut i: usize = 0;
-    while i < n {
-        let v = a[i];
-        let d = caller(recs, all, left, up, base, i, v);
-        scratch::hand(&mut a, ast::first(recs, i), d);
-        scratch::hand(&mut a, ast::next(recs, i), v);
-        i += 1;
-    }
-    a
-}
-
-// Entry i of table 5's words, 0 where it has none.
-fn entry(funs: &[u32], i: usize) -> u32
-    ensures { result ≡ get_or funs.now i 0 }
-{
-    if i < funs.len() { funs[i] } else { 0 }
-}
-
+// Table 5's word for the function v, one more than its number, 0 for none.
 fn caller_word(v: u16) -> u32
     ensures { result ≡ caller_word v }
 {
-    if v == 0 { 4294967295 } else { (v - 1) as u32 }
+    if v == 0 { NONE } else { v as u32 - 1 }
 }
 
-// A Function inside function v with another number or parent.
-fn is_wrong(
-    recs: &[u32],
-    funs: &[u32],
-    all: &[u16; 4096],
-    left: &[u16; 4096],
-    up: &[u16; 4096],
-    base: &[u16; 4096],
-    r: usize,
-    v: u16,
-) -> bool
-    requires small { size_of recs.now ≤ 4096 }
-    requires inside { r < 4096 }
-    ensures { result ≡ wrong recs.now funs.now r
-        (start_of recs.now all.now left.now up.now base.now r) v }
-{
-    if ast::kind(recs, r) != 30 {
-        return false;
-    }
-    let s = start(recs, all, left, up, base, r);
-    if ast::p(recs, r) != s as u32 {
-        return true;
-    }
-    let q = entry(funs, s as usize * 2);
-    if q == caller_word(v) { false } else { true }
-}
-
-// The first Function with a wrong number or parent.
-fn searched(
-    recs: &[u32],
-    funs: &[u32],
-    all: &[u16; 4096],
-    left: &[u16; 4096],
-    up: &[u16; 4096],
-    base: &[u16; 4096],
-    by: &[u16; 4096],
-) -> Broken
-    requires { size_of recs.now ≤ 4096 }
-    ensures { result ≡ broken (found recs.now funs.now all.now left.now up.now base.now by.now)
-        (size_of recs.now) }
-{
-    let n = ast::size(recs);
-    let mut r: usize = 0;
-    while r < n {
-        if is_wrong(recs, funs, all, left, up, base, r, by[r]) {
-            return Broken::At(r);
-        }
-        r += 1;
-    }
-    Broken::Nowhere
-}
-
-pub fn numbering(recs: &[u32], funs: &[u32]) -> Broken
+pub fn numbering(recs: &[u32], funs: &[u32]) -> Option<usize>
     ensures { size_of recs.now ≤ 4096 → Joined recs.now → result ≡ numbering_of recs.now funs.now }
 {
     let n = ast::size(recs);
     if 4096 < n {
-        return Broken::Nowhere;
+        return None;
     }
-    let all = tallied(recs);
-    let left = left_tallied(recs, &all);
-    let up = parents(recs, n);
-    let base = bases(recs, n, &all, &left, &up);
-    let by = callers(recs, n, &all, &left, &up, &base);
-    let f = ast::first(recs, 0);
-    let total = plus(own(recs, 0), all[f]);
-    if funs.len() / 2 != wide(total) {
-        return Broken::At(0);
+    let mut all = [0u16; 4096];
+    let mut left = [0u16; 4096];
+    tallied(recs, &mut all, &mut left);
+    let total = plus(own(recs, 0), all[ast::first(recs, 0)]);
+    if funs.len() / 2 != total as usize {
+        return Some(0);
     }
-    searched(recs, funs, &all, &left, &up, &base, &by)
+    let up = scratch::handed_down(recs, 0, |r, _| r as u16);
+    let counts = Counts {
+        recs,
+        all: &all,
+        left: &left,
+        up: &up,
+    };
+    let base = counts.bases();
+    let by = counts.callers(&base);
+    (0..n).find(|&r| counts.is_wrong(&base, funs, r, by[r]))
 }

@@ -1,6 +1,6 @@
 // Why and where a call is refused. Numbers and places of document 01 are in specs/Refusal.
 ghost use Rattle.std.specs.Prelude.{◌≡◌};
-ghost use Rattle.tables.specs.Refusal.{run_number, rule_of, number_of, place_of};
+ghost use Rattle.tables.specs.Refusal.{record_number, run_number, rule_of, number_of, place_of};
 
 // The rules that a record breaks: numbers 4 to 9.
 #[derive(Clone, Copy)]
@@ -35,82 +35,76 @@ pub enum Refusal {
     Run(RunRule, usize),
 }
 
-// What a check of the lent tables answers.
-#[derive(Clone, Copy)]
-pub enum Checked {
-    Accepted,
-    Refused(Refusal),
-}
-
-// The first place at which a rule is broken.
-#[derive(Clone, Copy)]
-pub enum Broken {
-    Nowhere,
-    At(usize),
-}
-
-fn record_number(rule: RecordRule) -> u32
-    ensures { result ≡ number_of (Refusal.Record rule 0) }
-{
-    match rule {
-        RecordRule::Detail => 4,
-        RecordRule::Link => 5,
-        RecordRule::Children => 6,
-        RecordRule::Naming => 7,
-        RecordRule::Nesting => 8,
-        RecordRule::Numbering => 9,
+impl RecordRule {
+    fn number(self) -> u32
+        ensures { result ≡ record_number self }
+    {
+        match self {
+            RecordRule::Detail => 4,
+            RecordRule::Link => 5,
+            RecordRule::Children => 6,
+            RecordRule::Naming => 7,
+            RecordRule::Nesting => 8,
+            RecordRule::Numbering => 9,
+        }
     }
 }
 
-pub fn run_number(rule: RunRule) -> u32
-    ensures { result ≡ run_number rule }
-{
-    match rule {
-        RunRule::Reference => 10,
-        RunRule::Load => 11,
-        RunRule::Store => 12,
-        RunRule::Operator => 13,
-        RunRule::Lengths => 14,
-        RunRule::Path => 15,
-        RunRule::Skipped => 16,
+impl RunRule {
+    pub fn number(self) -> u32
+        ensures { result ≡ run_number self }
+    {
+        match self {
+            RunRule::Reference => 10,
+            RunRule::Load => 11,
+            RunRule::Store => 12,
+            RunRule::Operator => 13,
+            RunRule::Lengths => 14,
+            RunRule::Path => 15,
+            RunRule::Skipped => 16,
+        }
     }
 }
 
 // The rule of a number; any other number is the last one's.
-pub fn run_rule(number: u32) -> RunRule
-    ensures { result ≡ rule_of number }
-{
-    match number {
-        10 => RunRule::Reference,
-        11 => RunRule::Load,
-        12 => RunRule::Store,
-        13 => RunRule::Operator,
-        14 => RunRule::Lengths,
-        15 => RunRule::Path,
-        _ => RunRule::Skipped,
+impl From<u32> for RunRule {
+    ghost from_gives = { λ number rule. rule ≡ rule_of number };
+
+    fn from(number: u32) -> Self {
+        match number {
+            10 => RunRule::Reference,
+            11 => RunRule::Load,
+            12 => RunRule::Store,
+            13 => RunRule::Operator,
+            14 => RunRule::Lengths,
+            15 => RunRule::Path,
+            _ => RunRule::Skipped,
+        }
     }
 }
 
-pub fn number(refusal: Refusal) -> u32
-    ensures { result ≡ number_of refusal }
-{
-    match refusal {
-        Refusal::Table(_) => 1,
-        Refusal::Space(_) => 2,
-        Refusal::Entry(_) => 3,
-        Refusal::Record(rule, _) => record_number(rule),
-        Refusal::Run(rule, _) => run_number(rule),
+impl Refusal {
+    pub fn number(self) -> u32
+        ensures { result ≡ number_of self }
+    {
+        match self {
+            Refusal::Table(_) => 1,
+            Refusal::Space(_) => 2,
+            Refusal::Entry(_) => 3,
+            Refusal::Record(rule, _) => rule.number(),
+            Refusal::Run(rule, _) => rule.number(),
+        }
     }
-}
 
-pub fn place(refusal: Refusal) -> usize
-    ensures { result ≡ place_of refusal }
-{
-    match refusal {
-        Refusal::Table(at) => at,
-        Refusal::Space(at) => at,
-        Refusal::Entry(at) => at,
-        Refusal::Record(_, at) => at,
-        Refusal::Run(_, at) => at,
+    pub fn place(self) -> usize
+        ensures { result ≡ place_of self }
+    {
+        match self {
+            Refusal::Table(at) => at,
+            Refusal::Space(at) => at,
+            Refusal::Entry(at) => at,
+            Refusal::Record(_, at) => at,
+            Refusal::Run(_, at) => at,
+        }
     }
 }

@@ -3,6 +3,9 @@ ghost use Rattle.std.specs.Prelude.{◌≡◌, ◌+◌, ◌^◌, ◌<◌, min, g
 ghost use Rattle.tables.specs.Semantic.{pair as pair_of, pairs as pairs_of, string_offset, string_length, text_of};
 ghost use Rattle.tables.specs.Semantic.{symbol_kind, symbol_name, symbol_of, parent_of, member_count, share_start, share};
 
+// No function, or no name.
+pub const NONE: u32 = 0xffff_ffff;
+
 // The sum of the counts is taken wide: up to here, which no table's length reaches.
 const WIDE: usize = 0x8000_0000_0000_0000;
 
@@ -10,7 +13,7 @@ const WIDE: usize = 0x8000_0000_0000_0000;
 pub fn entry(table: &[u32], i: usize) -> u32
     ensures { result ≡ get_or table.now i 0 }
 {
-    if i < table.len() { table[i] } else { 0 }
+    table.get(i).copied().unwrap_or(0)
 }
 
 // Word k of entry i of a table of two words an entry.
@@ -19,9 +22,10 @@ fn pair(table: &[u32], i: usize, k: usize) -> u32
     ensures { result ≡ pair_of table.now i k }
 {
     if i < table.len() {
-        return entry(table, i * 2 + k);
+        entry(table, i * 2 + k)
+    } else {
+        0
     }
-    0
 }
 
 // The number of entries of a table of two words an entry.
@@ -74,21 +78,14 @@ pub fn member_count(functions: &[u32], f: usize) -> u32
     pair(functions, f, 1)
 }
 
-// The smaller of two lengths.
-fn at_most(n: usize, limit: usize) -> usize
-    ensures { result ≡ min n limit }
-{
-    if n < limit { n } else { limit }
-}
-
 // The bytes of string s.
 pub fn text<'a>(strings: &[u32], bytes: &'a [u8], s: usize) -> &'a [u8]
     ensures { result.now ≡ text_of strings.now bytes.now s }
 {
     let offset = string_offset(strings, s) as usize;
     let size = string_length(strings, s) as usize;
-    let from = at_most(offset, bytes.len());
-    let to = at_most(from + size, bytes.len());
+    let from = offset.min(bytes.len());
+    let to = (from + size).min(bytes.len());
     &bytes[from..to]
 }
 
@@ -96,35 +93,23 @@ pub fn text<'a>(strings: &[u32], bytes: &'a [u8], s: usize) -> &'a [u8]
 pub fn byte(strings: &[u32], bytes: &[u8], s: usize, i: usize) -> u8
     ensures { result ≡ get_or (text_of strings.now bytes.now s) i 0 }
 {
-    let t = text(strings, bytes, s);
-    if i < t.len() { t[i] } else { 0 }
+    text(strings, bytes, s).get(i).copied().unwrap_or(0)
 }
 
 // A length with a count added, no more than the limit.
 pub fn add_count(n: usize, count: u32, limit: usize) -> usize
     ensures { result ≡ min (n + count) limit }
 {
-    let c = count as usize;
-    if limit <= c {
-        return limit;
-    }
-    if limit - c <= n {
-        return limit;
-    }
-    n + c
+    n.saturating_add(count as usize).min(limit)
 }
 
 // Where function f's share of the members starts.
 pub fn share_start(functions: &[u32], f: usize) -> usize
     ensures { result ≡ min (share_start functions.now f) (2 ^ 63) }
 {
-    let last = at_most(f, pairs(functions));
     let mut start: usize = 0;
-    let mut g: usize = 0;
-    while g < last {
-        let count = member_count(functions, g);
-        start = add_count(start, count, WIDE);
-        g += 1;
+    for g in 0..f.min(pairs(functions)) {
+        start = add_count(start, member_count(functions, g), WIDE);
     }
     start
 }
@@ -135,8 +120,8 @@ pub fn member(functions: &[u32], members: &[u32], f: usize, i: usize) -> u32
 {
     let count = member_count(functions, f) as usize;
     if i < count {
-        let start = share_start(functions, f);
-        return entry(members, start + i);
+        entry(members, share_start(functions, f) + i)
+    } else {
+        0
     }
-    0
 }

@@ -1,78 +1,52 @@
 // Replays cases of the checks: for each case of the input seven lengths and the words of tables 1 to 7, answered by `ok` or a refusal's number and place.
 #![tactic(auto)]
 
-ghost use Rattle.std.specs.Prelude.{◌+◌, ◌≤◌, length};
-
-use replay::case::{front, front_bytes, narrow, rest, start, table};
-use replay::input::{Input, read, unreadable};
-use replay::print::{refused, text};
+use replay::case::{Case, Cases, narrow};
+use replay::input::read;
+use replay::print::{refused, unreadable};
+use std::io;
 use tables::check::check;
-use tables::refusal::Checked;
+use tables::lent::Tables;
+use tables::refusal::Refusal;
 
 // A case has so many numbers before its tables.
 const NUMBERS: usize = 7;
 
-fn answer(checked: Checked) {
+// Room for the bytes of table 2.
+const BYTES: usize = 65544;
+
+fn answer(rt: &impl Print, checked: Result<(), Refusal>) -> io::Result<()> {
     match checked {
-        Checked::Accepted => text(b"ok\n"),
-        Checked::Refused(why) => refused(why),
+        Ok(()) => println!(rt; "ok"),
+        Err(why) => refused(rt, why),
     }
 }
 
-fn check_case(case: &[u32], bytes: &[u8]) {
-    answer(check(
-        table(case, NUMBERS, 0),
-        bytes,
-        table(case, NUMBERS, 2),
-        table(case, NUMBERS, 3),
-        table(case, NUMBERS, 4),
-        table(case, NUMBERS, 5),
-        table(case, NUMBERS, 6),
-    ));
+fn one(rt: &(impl Print + AllocGlobal), case: Case) -> io::Result<()> {
+    let Some(bytes) = narrow(rt.alloc(), case.table(1), BYTES)? else {
+        return unreadable(rt);
+    };
+    let checked = check(&Tables {
+        strings: case.table(0),
+        bytes: &bytes,
+        symbols: case.table(2),
+        references: case.table(3),
+        functions: case.table(4),
+        members: case.table(5),
+        records: case.table(6),
+    });
+    answer(rt, checked)
 }
 
-fn with_bytes(case: &[u32]) {
-    let mut bytes = [0u8; 65544];
-    let narrowed = table(case, NUMBERS, 1);
-    if narrow(narrowed, &mut bytes) {
-        check_case(case, front_bytes(&bytes, narrowed.len()));
-    } else {
-        unreadable();
-    }
-}
-
-// One case, if it is whole; answers where the next one begins.
-fn one(case: &[u32]) -> usize
-    ensures { result ≤ length case.now + 1 }
-{
-    let end = start(case, NUMBERS, 7);
-    if case.len() < end {
-        unreadable();
-    } else {
-        with_bytes(case);
-    }
-    end
-}
-
-fn all(words: &[u32]) {
-    let mut at: usize = 0;
-    for turn in 0..words.len() {
-        if words.len() <= at {
-            return;
+fn main(rt: HostRuntime) -> io::Result<()> {
+    let Some(words) = read(&rt)? else {
+        return unreadable(&rt);
+    };
+    for case in Cases::new(&words, NUMBERS) {
+        match case {
+            Some(case) => one(&rt, case)?,
+            None => unreadable(&rt)?,
         }
-        at += one(rest(words, at));
     }
-}
-
-fn blank() -> [u32; 458752] {
-    [0u32; 458752]
-}
-
-fn main() {
-    let mut words = blank();
-    let input = read(&mut words);
-    match input {
-        Input::Words(count) => all(front(&words, count)),
-        Input::Unreadable => unreadable(),
-    }
+    Ok(())
 }

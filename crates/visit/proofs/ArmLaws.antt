@@ -26,14 +26,15 @@ use Rattle.rules.specs.Step.{Role, Expr, Use, Step, push_op, push_const, place, 
 use Rattle.rules.specs.Kinds.{Kind, kinds, steps_of, steps}
 use Rattle.rules.specs.Arms.{unary_code, property, get_code, set_code, safe_jump, unlabelled, member_steps, method_steps}
 use Rattle.rules.specs.Run.{State, Spot, number_of, spot_at, sought, labels, bump, emit, exec}
-use Rattle.emit.specs.Words.{limit, cap, at, code_in}
-use Rattle.emit.specs.Sinks.{Pushes, Uses}
-use Rattle.emit.specs.Rep.{Walk, Lent, Scoped, Outs, outs, Rep, Sim}
-use Rattle.emit.specs.Does.{nth, access_noted, noted_look, visit_in, near, doing, does, through}
-use Rattle.emit.proofs.Basics.{clash, on_true, on_false}
-use Rattle.emit.proofs.MarkLaws.{said}
-use Rattle.emit.proofs.NameLaws.{accessed}
-use Rattle.emit.proofs.VisitLaws.{ident_number, visit_none, visit_does}
+use Rattle.context.specs.Words.{limit, cap}
+use Rattle.context.specs.Sinks.{pushed, used as used_of}
+use Rattle.context.specs.Rep.{Walk, Lent, Scoped, Rep, Sim}
+use Rattle.context.specs.declared.Context.{Context}
+use Rattle.context.specs.Does.{nth, access_noted, noted_look, visit_in, near, doing, does, through}
+use Rattle.context.proofs.Basics.{clash, on_true, on_false}
+use Rattle.context.proofs.MarkLaws.{said}
+use Rattle.context.proofs.NameLaws.{accessed}
+use Rattle.context.proofs.VisitLaws.{ident_number, visit_none, visit_does}
 use Rattle.plain.specs.Operators.{member_of, unary_of, is_short}
 use Rattle.plain.specs.Runs.{safe_run}
 use Rattle.plain.proofs.OperatorLaws.{member_number_lem, get_words, set_words, unary_words}
@@ -47,21 +48,21 @@ next_of recs e q = e ∙ ap (λ (z : ℕ). next recs z) q
 abbrev pub ident_at : List ℕ → ℕ → ℕ → Spot
 ident_at recs r j = spot_at (tree r (words recs r) (children recs r) none) (j ∷ [])
 
-module _ {e : Lent} (z : Scoped e) {c : Walk} {o₀ : Outs} {A : State} {o o' : Outs} {w w' : List ℕ} where
-  pub visited : (a : Role) {x y : ℕ} → x ≡ y → Sim e o w o' w' (λ c. visit_in e c a x) → Rep c e.records o₀ A o w → Rep c e.records o₀ (visit_in e c a y A) o' w'
-  visited a q h k = subst (λ (b : ℕ). Rep c e.records o₀ (visit_in e c a b A) o' w') q (h.sim z c o₀ A k)
+module _ {e : Lent} (z : Scoped e) {c : Walk} {o₀ : Context} {A : State} {w w' : Context} where
+  pub visited : (a : Role) {x y : ℕ} → x ≡ y → Sim e w w' (λ c. visit_in e c a x) → Rep c e.records o₀ A w → Rep c e.records o₀ (visit_in e c a y A) w'
+  visited a q h k = subst (λ (b : ℕ). Rep c e.records o₀ (visit_in e c a b A) w') q (h.sim z c o₀ A k)
 
-  pub through_at : {n n' l l' : ℕ} → n ≡ n' → l ≡ l' → Sim e o w o' w' (λ c. through e c Expr n l) → Rep c e.records o₀ A o w
-      → Rep c e.records o₀ (through e c Expr n' l' A) o' w'
+  pub through_at : {n n' l l' : ℕ} → n ≡ n' → l ≡ l' → Sim e w w' (λ c. through e c Expr n l) → Rep c e.records o₀ A w
+      → Rep c e.records o₀ (through e c Expr n' l' A) w'
   through_at {n' = n'} {l = l} p q h k =
-      subst (λ (x : ℕ). Rep c e.records o₀ (through e c Expr n' x A) o' w') q
-      (subst (λ (x : ℕ). Rep c e.records o₀ (through e c Expr x l A) o' w') p (h.sim z c o₀ A k))
+      subst (λ (x : ℕ). Rep c e.records o₀ (through e c Expr n' x A) w') q
+      (subst (λ (x : ℕ). Rep c e.records o₀ (through e c Expr x l A) w') p (h.sim z c o₀ A k))
 
 -- the Ident at child j, loaded or stored to
-module _ {e : Lent} (z : Scoped e) {c : Walk} {o₀ : Outs} {A : State} {o o' cs w w' : List ℕ} where
-  pub used : (r j : ℕ) (u : Use) {i : ℕ} → i ≡ nth e.records j (first e.records r) → Uses o w o' w' u i (access_noted e.notes u i)
-      → Rep c e.records o₀ A (outs o cs) w
-      → Rep c e.records o₀ (sought r u (number_of (ident_at e.records r j)) (noted_look e.notes (words e.records c.function) u (ident_at e.records r j)) A) (outs o' cs) w'
+module _ {e : Lent} (z : Scoped e) {c : Walk} {o₀ : Context} {A : State} {w w' : Context} where
+  pub used : (r j : ℕ) (u : Use) {i : ℕ} → i ≡ nth e.records j (first e.records r) → w' ≡ used_of u i (access_noted e.notes u i) w
+      → Rep c e.records o₀ A w
+      → Rep c e.records o₀ (sought r u (number_of (ident_at e.records r j)) (noted_look e.notes (words e.records c.function) u (ident_at e.records r j)) A) w'
   used r j u q k h =
       accessed r e.notes (words e.records c.function) u (ident_at e.records r j) (ident_number e.records r (words e.records r) j q) k h
 
@@ -133,33 +134,33 @@ property_same {m} n q k is = go (ltb n 3) refl
         none_of : (i : ℕ) → 3 ≤ i → property i k is ≡ is
         none_of i h = on_false (eqb i 0) _ _ (ne_eqb i 0 (λ y. omega arith)) ∙ on_false (ltb i 3) _ _ (le-ltb i 3 h)
 
-module _ {e : Lent} (z : Scoped e) {c : Walk} {o₀ : Outs} {A : State} {o o' : Outs} {w w' : List ℕ} where
+module _ {e : Lent} (z : Scoped e) {c : Walk} {o₀ : Context} {A : State} {w w' : Context} where
   -- the property of a record's own member, which is number n
   pub propped : (r n : ℕ) {m : MemberKind} → m ≡ member_of n
-      → Sim e o w o' w' (λ c. does e c r (property_steps m (words e.records r) (own_tree (children e.records r)))) → Rep c e.records o₀ A o w
-      → Rep c e.records o₀ (does e c r (property n (own_tree (children e.records r)) []) A) o' w'
+      → Sim e w w' (λ c. does e c r (property_steps m (words e.records r) (own_tree (children e.records r)))) → Rep c e.records o₀ A w
+      → Rep c e.records o₀ (does e c r (property n (own_tree (children e.records r)) []) A) w'
   propped r n q h k =
-      subst (λ (is : List Step). Rep c e.records o₀ (does e c r is A) o' w') (property_same n q (own_tree (children e.records r)) []) (h.sim z c o₀ A k)
+      subst (λ (is : List Step). Rep c e.records o₀ (does e c r is A) w') (property_same n q (own_tree (children e.records r)) []) (h.sim z c o₀ A k)
 
-module _ {c : Walk} {records : List ℕ} {o₀ : Outs} {A : State} {o w o' w' cs : List ℕ} (r n : ℕ) {m : MemberKind} (q : m ≡ member_of n) where
-  pub got : Pushes o w o' w' (op_words (get_of m)) → Rep c records o₀ A (outs o cs) w → Rep c records o₀ (emit (mark r (Do (get_code n) 0)) A) (outs o' cs) w'
-  got k h = said r (get_code n) 0 refl refl (subst (λ x. Pushes o w o' w' x) (get_words n q) k) h
+module _ {c : Walk} {records : List ℕ} {o₀ : Context} {A : State} {w w' : Context} (r n : ℕ) {m : MemberKind} (q : m ≡ member_of n) where
+  pub got : w' ≡ pushed (op_words (get_of m)) w → Rep c records o₀ A w → Rep c records o₀ (emit (mark r (Do (get_code n) 0)) A) w'
+  got k h = said r (get_code n) 0 refl refl (subst (λ x. w' ≡ pushed x w) (get_words n q) k) h
 
-  pub was_set : Pushes o w o' w' (op_words (set_of m)) → Rep c records o₀ A (outs o cs) w → Rep c records o₀ (emit (mark r (Do (set_code n) 0)) A) (outs o' cs) w'
-  was_set k h = said r (set_code n) 0 refl refl (subst (λ x. Pushes o w o' w' x) (set_words n q) k) h
+  pub was_set : w' ≡ pushed (op_words (set_of m)) w → Rep c records o₀ A w → Rep c records o₀ (emit (mark r (Do (set_code n) 0)) A) w'
+  was_set k h = said r (set_code n) 0 refl refl (subst (λ x. w' ≡ pushed x w) (set_words n q) k) h
 
-pub unary : {c : Walk} {records : List ℕ} {o₀ : Outs} {A : State} {o w o' w' cs : List ℕ} (r d : ℕ) {x : UnOp} → x ≡ unary_of d → Pushes o w o' w' (op_words (from_un_op x))
-    → Rep c records o₀ A (outs o cs) w → Rep c records o₀ (emit (mark r (Do (unary_code d) 0)) A) (outs o' cs) w'
-unary {o = o} {w} {o'} {w'} r d q k h = said r (unary_code d) 0 refl refl (subst (λ x. Pushes o w o' w' x) (ap (λ (x : UnOp). op_words (from_un_op x)) q ∙ unary_words d) k) h
+pub unary : {c : Walk} {records : List ℕ} {o₀ : Context} {A : State} {w w' : Context} (r d : ℕ) {x : UnOp} → x ≡ unary_of d → w' ≡ pushed (op_words (from_un_op x)) w
+    → Rep c records o₀ A w → Rep c records o₀ (emit (mark r (Do (unary_code d) 0)) A) w'
+unary {w} {w'} r d q k h = said r (unary_code d) 0 refl refl (subst (λ x. w' ≡ pushed x w) (ap (λ (x : UnOp). op_words (from_un_op x)) q ∙ unary_words d) k) h
 
 -- a word's number is as a word holds it
 pub cap_word : (n : ℕ) → n ≤ limit → n ≡ cap n
 cap_word n le = omega arith
 
 -- the stack code of the walk, as the code tests it
-pub label_test : {c : Walk} {records : List ℕ} {o₀ o : Outs} {A : State} {w : List ℕ} {b : Bool} (d : ℕ) → Rep c records o₀ A o w → b ≡ unlabelled (code_in (at w)) d
+pub label_test : {c : Walk} {records : List ℕ} {o₀ : Context} {A : State} {w : Context} {b : Bool} (d : ℕ) → Rep c records o₀ A w → b ≡ unlabelled w.stack d
     → unlabelled c.code d ≡ b
-label_test d h q = ap (λ (s : StackCode). unlabelled s d) (sym h.reads.stack) ∙ sym q
+label_test d h q = ap (λ (s : StackCode). unlabelled s d) (sym h.stack) ∙ sym q
 
 module _ (e : Lent) (c : Walk) (r : ℕ) where
   abbrev W : Words

@@ -9,8 +9,8 @@ use lib.Dec.{ltb, eqb}
 use borrow.Author.Tests.{eq-eqb, ne_eqb, ltb-true}
 use Rattle.tables.specs.Record.{word, size}
 use Rattle.tables.specs.Forest.{guarded, first, next}
-use Rattle.emit.specs.Does.{nth}
-use Rattle.emit.proofs.Basics.{on_true, on_false}
+use Rattle.context.specs.Does.{nth}
+use Rattle.context.proofs.Basics.{on_true, on_false}
 
 -- x is absent, or lies after r within the table
 abbrev pub Linked : ℕ → ℕ → ℕ → Type 0

@@ -46,9 +46,9 @@ use Rattle.rules.specs.Arms.{
 }
 use Rattle.rules.specs.Patterns.{match_steps, case_steps}
 use Rattle.rules.specs.Run.{Loop, loop, State, st, labels, bump, begin, nested, idle, exec}
-use Rattle.emit.specs.Rep.{Walk, mode, within, Lent}
-use Rattle.emit.specs.Does.{noted_look, visit_in, own_stream, near, doing, does}
-use Rattle.emit.proofs.VisitLaws.{stream_does}
+use Rattle.context.specs.Rep.{Walk, mode, within, Lent}
+use Rattle.context.specs.Does.{noted_look, visit_in, own_stream, near, doing, does}
+use Rattle.context.proofs.VisitLaws.{stream_does}
 use Rattle.visit.specs.Arms.{later_steps, last_steps}
 use Rattle.visit.proofs.ArmLaws.{skip, by}
 

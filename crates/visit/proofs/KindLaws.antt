@@ -78,12 +78,13 @@ use Rattle.rules.specs.Arms.{
 use Rattle.rules.specs.Kinds.{steps}
 use Rattle.rules.specs.Patterns.{match_steps}
 use Rattle.rules.specs.Run.{State, flow, labels, emit, bump, halt, barred, begin, loop, exec}
-use Rattle.emit.specs.Rep.{Walk, mode, Lent}
-use Rattle.emit.specs.Does.{nth, visit_in, near, doing, does, through}
-use Rattle.emit.proofs.Basics.{is_go, on_true, on_false, is_go_lem, no_emit}
-use Rattle.emit.proofs.RepLaws.{bumps}
-use Rattle.emit.proofs.VisitLaws.{visit_does}
-use Rattle.emit.proofs.PartLaws.{visits_part}
+use Rattle.context.specs.Rep.{Walk, mode, Lent}
+use Rattle.context.specs.Does.{nth, visit_in, near, doing, does, through}
+use Rattle.context.specs.Words.{is_go}
+use Rattle.context.proofs.Basics.{on_true, on_false, is_go_lem, no_emit}
+use Rattle.context.proofs.RepLaws.{bumps}
+use Rattle.context.proofs.VisitLaws.{visit_does}
+use Rattle.context.proofs.PartLaws.{visits_part}
 use Rattle.plain.specs.Operators.{member_of, is_meta, binary_of, short_jump}
 use Rattle.plain.specs.Runs.{argument_count, repeated, registering, registered, iterate_run, end_for_run, targets_put, return_run}
 use Rattle.plain.proofs.GoLaws.{halt_not}

@@ -15,11 +15,12 @@ use Rattle.rules.specs.Step.{Role, Expr, Target, Step, visits_down, width}
 use Rattle.rules.specs.Arms.{block_steps, unpacked, bodies}
 use Rattle.rules.specs.Run.{State, flow, emit, kept, exec}
 use Rattle.rules.proofs.Sticky.{Ended, Sticky, exec_sticky, visits_sticky}
-use Rattle.emit.specs.Rep.{Walk, mode, Lent}
-use Rattle.emit.specs.Does.{nth, noted_look, visit_at, visit_in, own_stream, near, doing, does, through, items}
-use Rattle.emit.proofs.Basics.{is_go, clash, no_emit, no_kept}
-use Rattle.emit.proofs.VisitLaws.{children_near, visit_none}
-use Rattle.emit.proofs.PartLaws.{nth_next, width_none, width_some, block_some}
+use Rattle.context.specs.Rep.{Walk, mode, Lent}
+use Rattle.context.specs.Does.{nth, noted_look, visit_at, visit_in, own_stream, near, doing, does, through, items}
+use Rattle.context.specs.Words.{is_go}
+use Rattle.context.proofs.Basics.{clash, no_emit, no_kept}
+use Rattle.context.proofs.VisitLaws.{children_near, visit_none}
+use Rattle.context.proofs.PartLaws.{nth_next, width_none, width_some, block_some}
 use Rattle.visit.specs.Runs.{bodied, bodied_all}
 
 -- the run does not go on

@@ -8,26 +8,21 @@ use Rattle.rules.specs.declared.StackCode.{StackCode}
 use Rattle.rules.specs.Step.{Role, Step}
 use Rattle.rules.specs.Arms.{handler_steps}
 use Rattle.rules.specs.Run.{State, nested}
-use Rattle.emit.specs.Words.{cap}
-use Rattle.emit.specs.Rep.{Walk, within, Lent, lent, outs, Sim}
-use Rattle.emit.specs.Does.{visit_in, own_stream, does}
+use Rattle.context.specs.Words.{cap}
+use Rattle.context.specs.Rep.{Walk, within, Lent, lent, Sim}
+use Rattle.context.specs.declared.Context.{Context}
+use Rattle.context.specs.declared.tree.Tree.{Tree}
+use Rattle.context.specs.Does.{visit_in, own_stream, does}
 use Rattle.visit.specs.Runs.{bodied_all}
 
--- words lent to read, and words lent to write, at entry and at exit
-abbrev pub LentWords : Type 0
-LentWords = Both (Bor (List ℕ)) (Bor (List ℕ))
-
-abbrev pub WrittenWords : Type 0
-WrittenWords = Both (MutBor (List ℕ)) (MutBor (List ℕ))
-
-module _ (recs notes : LentWords) (code consts frame : WrittenWords) where
+-- the tree, lent to read, and the context, lent to write, at entry and at exit
+module _ (tree : Both (Bor Tree) (Bor Tree)) (cx : Both (MutBor Context) (MutBor Context)) where
   abbrev tables : Lent
-  tables = lent recs.entry.now notes.entry.now
+  tables = lent tree.entry.now
 
   -- the state goes by f
   abbrev pub Goes : (Lent → Walk → State → State) → Type 0
-  Goes f =
-      Sim tables (outs code.entry.now consts.entry.now) frame.entry.now (outs code.exit.now consts.exit.now) frame.exit.now (f tables)
+  Goes f = Sim tables cx.entry.now cx.exit.now (f tables)
 
   -- by the steps of record r, worked out from its words and its own tree
   abbrev pub Follows : ℕ → (StackCode → Words → Nodes → List Step) → Type 0
@@ -47,4 +42,4 @@ module _ (recs notes : LentWords) (code consts frame : WrittenWords) where
 
   -- by a Handler's steps; the number of a record that has a kind is a word
   pub record Catches (h : ℕ) : Type 0 where
-    pub catches : word recs.entry.now h 0 ≡ 32 → Follows h (λ sc. handler_steps)
+    pub catches : word tables.records h 0 ≡ 32 → Follows h (λ sc. handler_steps)

@@ -4,8 +4,8 @@ use Rattle.tables.specs.Forest.{next, forest, own_tree}
 use Rattle.rules.specs.Marker.{Jump, Label, To, mark}
 use Rattle.rules.specs.Step.{Expr, width}
 use Rattle.rules.specs.Run.{State, emit}
-use Rattle.emit.specs.Rep.{Walk, Lent}
-use Rattle.emit.specs.Does.{visit_in}
+use Rattle.context.specs.Rep.{Walk, Lent}
+use Rattle.context.specs.Does.{visit_in}
 
 module _ (e : Lent) (c : Walk) (r : ℕ) where
   -- n bodies from the record l on, behind the labels from `base` on, with jumps to the label `end`

@@ -7,29 +7,19 @@ ghost use Rattle.rules.specs.Arms.{block_steps, fn_steps, stream_steps, table_st
 ghost use Rattle.rules.specs.Arms.{while_steps, for_steps, return_steps, import_steps, glo_assign_steps, assign_steps, assign_op_steps, short_assign_steps};
 ghost use Rattle.rules.specs.Arms.{assign_unpack_steps, assign_multi_steps};
 ghost use Rattle.rules.specs.Patterns.{match_steps};
-ghost use Rattle.emit.specs.Does.{through};
+ghost use Rattle.context.specs.Does.{through};
 ghost use Rattle.plain.specs.Operators.{call_of, short_jump};
 ghost use Rattle.visit.specs.Arms.{later_steps, last_steps, property_steps};
 ghost use Rattle.visit.specs.Forms.{Goes, Follows, Visits, Nests, Bodies, Catches};
 
-use emit::code::push_label;
-use emit::constant::{push_import, push_lit, push_load_const, push_null};
-use emit::error::keep_error;
-use emit::flow::{cut, refuse};
-use emit::frame::{Frame, goes_on, nests};
-use emit::function::{begin_function, end_function, function_id, is_in_do, is_numbered};
-use emit::label::{get_label, get_labels, next_label};
-use emit::loops::{begin_loop, end_loop};
-use emit::name::{load, store};
-use emit::op::{
-    push_build_list, push_build_table, push_call, push_check_effect, push_copy, push_get_item,
-    push_import_glob, push_jump, push_jump_back_edge, push_jump_if_false_or_pop,
-    push_jump_if_true_or_pop, push_load_locals, push_mark_add_stack_size, push_pop,
-    push_pop_jump_if_false, push_return, push_swap, push_type_check,
-};
-use emit::word::capped;
+use context::Context;
+use context::function::function_id;
+use context::label::next_label;
+use context::tree::Tree;
+use context::word::capped;
 use opcode::index::LabelId;
 use opcode::member::MemberKind;
+use opcode::opcode::OpCode;
 use opcode::operator::BinOp;
 use pattern::cases::patterns;
 use plain::assign::{after, copies};
@@ -46,7 +36,7 @@ use plain::operator::{
     unary_operator,
 };
 use plain::siblings::{nth, width};
-use pool::notes::{Notes, earlier};
+use pool::notes::earlier;
 use pool::value::ConstValue;
 use rules::error;
 use tables::ast::{detail, first, kind, next, p, q};
@@ -55,381 +45,276 @@ use tables::{detail, kind};
 
 // visit_expr
 #[cycle(visitors)]
-pub fn expr(
-    recs: &[u32],
-    notes: &Notes,
-    code: &mut [u32],
-    consts: &mut [u32],
-    frame: &mut Frame,
-    r: usize,
-)
-    ensures { Visits recs notes code consts frame Expr r }
+pub fn expr(tree: &Tree, cx: &mut Context, r: usize)
+    ensures { Visits tree cx Expr r }
 {
     if r == 0 {
         return;
     }
-    match kind(recs, r) {
-        kind::LIT => push_lit(recs, code, consts, frame, r),
-        kind::IDENT => load(notes, code, frame, r),
-        kind::PAREN => expr(recs, notes, code, consts, frame, first(recs, r)),
-        kind::BLOCK => block(recs, notes, code, consts, frame, r),
-        kind::FN => func(recs, notes, code, consts, frame, r),
-        kind::EFFECT => effect(recs, notes, code, consts, frame, r),
-        kind::TABLE => table(recs, notes, code, consts, frame, r),
-        kind::LIST => list(recs, notes, code, consts, frame, r),
+    match kind(tree.records, r) {
+        kind::LIT => cx.push_lit(tree.records, r),
+        kind::IDENT => cx.load(tree.notes, r),
+        kind::PAREN => expr(tree, cx, first(tree.records, r)),
+        kind::BLOCK => block(tree, cx, r),
+        kind::FN => func(tree, cx, r),
+        kind::EFFECT => effect(tree, cx, r),
+        kind::TABLE => table(tree, cx, r),
+        kind::LIST => list(tree, cx, r),
         kind::UNARY => {
-            expr(recs, notes, code, consts, frame, first(recs, r));
-            push_unary(code, frame, unary_operator(recs, r))
+            expr(tree, cx, first(tree.records, r));
+            push_unary(cx, unary_operator(tree.records, r))
         }
-        kind::BINARY => binary(recs, notes, code, consts, frame, r),
+        kind::BINARY => binary(tree, cx, r),
         kind::TYPE_CHECK => {
-            expr(recs, notes, code, consts, frame, first(recs, r));
-            push_type_check(code, frame, detail(recs, r))
+            expr(tree, cx, first(tree.records, r));
+            cx.push_op(OpCode::TypeCheck(detail(tree.records, r)))
         }
-        kind::MEMBER => member(recs, notes, code, consts, frame, r),
-        kind::CALL => call(recs, notes, code, consts, frame, r, false),
-        _ => arm(recs, notes, code, consts, frame, r),
+        kind::MEMBER => member(tree, cx, r),
+        kind::CALL => call(tree, cx, r, false),
+        _ => arm(tree, cx, r),
     }
 }
 
 // visit_expr's further arms
 #[cycle(visitors)]
-fn arm(
-    recs: &[u32],
-    notes: &Notes,
-    code: &mut [u32],
-    consts: &mut [u32],
-    frame: &mut Frame,
-    r: usize,
-)
-    ensures { Follows recs notes code consts frame r later_steps }
+fn arm(tree: &Tree, cx: &mut Context, r: usize)
+    ensures { Follows tree cx r later_steps }
 {
-    match kind(recs, r) {
-        kind::IF => cond(recs, notes, code, consts, frame, r),
-        kind::MATCH => cases(recs, notes, code, consts, frame, r),
-        kind::LOOP => repeat(recs, notes, code, consts, frame, r),
-        kind::WHILE => whilst(recs, notes, code, consts, frame, r),
-        kind::FOR => each(recs, notes, code, consts, frame, r),
-        kind::BREAK => break_loop(recs, code, consts, frame, r),
-        kind::CONTINUE => continue_loop(recs, code, consts, frame, r),
-        kind::RETURN => ret(recs, notes, code, consts, frame, r),
-        kind::IMPORT => import(recs, notes, code, consts, frame, r),
-        kind::GLO_ASSIGN => glo(recs, notes, code, consts, frame, r),
-        kind::ASSIGN => assign(recs, notes, code, consts, frame, r),
-        kind::ASSIGN_OP => update(recs, notes, code, consts, frame, r),
-        kind::ASSIGN_UNPACK => unpack(recs, notes, code, consts, frame, r),
-        kind::ASSIGN_MULTI => multi(recs, notes, code, consts, frame, r),
-        _ => rest(recs, notes, code, consts, frame, r),
+    match kind(tree.records, r) {
+        kind::IF => cond(tree, cx, r),
+        kind::MATCH => cases(tree, cx, r),
+        kind::LOOP => repeat(tree, cx, r),
+        kind::WHILE => whilst(tree, cx, r),
+        kind::FOR => each(tree, cx, r),
+        kind::BREAK => break_loop(tree, cx, r),
+        kind::CONTINUE => continue_loop(tree, cx, r),
+        kind::RETURN => ret(tree, cx, r),
+        kind::IMPORT => import(tree, cx, r),
+        kind::GLO_ASSIGN => glo(tree, cx, r),
+        kind::ASSIGN => assign(tree, cx, r),
+        kind::ASSIGN_OP => update(tree, cx, r),
+        kind::ASSIGN_UNPACK => unpack(tree, cx, r),
+        kind::ASSIGN_MULTI => multi(tree, cx, r),
+        _ => rest(tree, cx, r),
     }
 }
 
 // The kinds that are no expression, visited where they stand. The first is visit_function.
 #[cycle(visitors)]
-fn rest(
-    recs: &[u32],
-    notes: &Notes,
-    code: &mut [u32],
-    consts: &mut [u32],
-    frame: &mut Frame,
-    r: usize,
-)
-    ensures { Follows recs notes code consts frame r last_steps }
+fn rest(tree: &Tree, cx: &mut Context, r: usize)
+    ensures { Follows tree cx r last_steps }
 {
-    match kind(recs, r) {
+    match kind(tree.records, r) {
         kind::FUNCTION => {
-            inner(recs, notes, code, consts, frame, r);
-            let function_id = function_id(recs, r);
-            push_load_const(recs, code, consts, frame, ConstValue::Function(function_id));
-            if detail(recs, r) == detail::DO {
-                push_call(code, frame, 0)
+            inner(tree, cx, r);
+            let function_id = function_id(tree.records, r);
+            cx.push_load_const(tree.records, ConstValue::Function(function_id));
+            if detail(tree.records, r) == detail::DO {
+                cx.push_op(OpCode::Call(0))
             }
         }
-        kind::PARAMS => params(recs, notes, code, frame, r),
-        kind::HANDLER => catch(recs, notes, code, consts, frame, r),
+        kind::PARAMS => params(tree, cx, r),
+        kind::HANDLER => catch(tree, cx, r),
         kind::CASE => {
-            let body = nth(recs, first(recs, r), p(recs, r) as usize);
-            expr(recs, notes, code, consts, frame, body)
+            let body = nth(
+                tree.records,
+                first(tree.records, r),
+                p(tree.records, r) as usize,
+            );
+            expr(tree, cx, body)
         }
-        kind::ITEM => import_item(recs, notes, code, consts, frame, r),
+        kind::ITEM => import_item(tree, cx, r),
         _ => {}
     }
 }
 
 // gen_function_code inside another function, where the functions inside are walked.
 #[cycle(visitors)]
-pub fn inner(
-    recs: &[u32],
-    notes: &Notes,
-    code: &mut [u32],
-    consts: &mut [u32],
-    frame: &mut Frame,
-    r: usize,
-)
-    ensures { Nests recs notes code consts frame r }
+pub fn inner(tree: &Tree, cx: &mut Context, r: usize)
+    ensures { Nests tree cx r }
 {
-    if !nests(frame) {
+    if !cx.nest {
         return;
     }
-    if !goes_on(frame) {
+    if !cx.goes_on() {
         return;
     }
-    if !is_numbered(recs, frame, r) {
-        return refuse(frame, RunRule::Skipped, r);
+    if !cx.is_numbered(tree.records, r) {
+        return cx.refuse(RunRule::Skipped, r);
     }
-    let outer = begin_function(frame, r);
-    body(recs, notes, code, consts, frame, r);
-    keep_error(code, frame);
-    end_function(frame, outer)
+    let outer = cx.begin_function(r);
+    body(tree, cx, r);
+    cx.keep_error();
+    cx.end_function(outer)
 }
 
 // gen_function_code: the function's own stream.
 #[cycle(visitors)]
-pub fn body(
-    recs: &[u32],
-    notes: &Notes,
-    code: &mut [u32],
-    consts: &mut [u32],
-    frame: &mut Frame,
-    r: usize,
-)
-    ensures { Follows recs notes code consts frame r (λ sc w k. stream_steps w) }
+pub fn body(tree: &Tree, cx: &mut Context, r: usize)
+    ensures { Follows tree cx r (λ sc w k. stream_steps w) }
 {
-    let params = first(recs, r);
-    let block = next(recs, params);
-    expr(recs, notes, code, consts, frame, params);
-    expr(recs, notes, code, consts, frame, block);
-    if detail(recs, r) == detail::DO {
-        push_pop(code, frame);
-        push_load_locals(code, frame);
-        return push_return(code, frame);
+    let params = first(tree.records, r);
+    let block = next(tree.records, params);
+    expr(tree, cx, params);
+    expr(tree, cx, block);
+    if detail(tree.records, r) == detail::DO {
+        cx.push_op(OpCode::Pop);
+        cx.push_op(OpCode::LoadLocals);
+        return cx.push_op(OpCode::Return);
     }
-    push_return(code, frame)
+    cx.push_op(OpCode::Return)
 }
 
 // visit_block: an expression's error is kept.
 #[cycle(visitors)]
-fn block(
-    recs: &[u32],
-    notes: &Notes,
-    code: &mut [u32],
-    consts: &mut [u32],
-    frame: &mut Frame,
-    r: usize,
-)
-    ensures { Follows recs notes code consts frame r (λ sc. block_steps) }
+fn block(tree: &Tree, cx: &mut Context, r: usize)
+    ensures { Follows tree cx r (λ sc. block_steps) }
 {
-    let mut child = first(recs, r);
+    let mut child = first(tree.records, r);
     if child == 0 {
-        return push_null(recs, code, consts, frame);
+        return cx.push_null(tree.records);
     }
-    while goes_on(frame) {
-        expr(recs, notes, code, consts, frame, child);
-        keep_error(code, frame);
-        child = next(recs, child);
+    while cx.goes_on() {
+        expr(tree, cx, child);
+        cx.keep_error();
+        child = next(tree.records, child);
         if child == 0 {
             return;
         }
-        push_pop(code, frame);
+        cx.push_op(OpCode::Pop);
     }
 }
 
 // n siblings from this one on.
 #[cycle(visitors)]
-fn all(
-    recs: &[u32],
-    notes: &Notes,
-    code: &mut [u32],
-    consts: &mut [u32],
-    frame: &mut Frame,
-    item: usize,
-    n: usize,
-)
-    ensures { Goes recs notes code consts frame (λ e c. through e c Expr n item) }
+fn all(tree: &Tree, cx: &mut Context, item: usize, n: usize)
+    ensures { Goes tree cx (λ e c. through e c Expr n item) }
 {
     let mut at = item;
-    let mut left = n;
-    while 0 < left {
+    for _ in 0..n {
         if at == 0 {
             return;
         }
-        expr(recs, notes, code, consts, frame, at);
-        at = next(recs, at);
-        left -= 1;
+        expr(tree, cx, at);
+        at = next(tree.records, at);
     }
 }
 
 // ExprKind::Fn
 #[cycle(visitors)]
-fn func(
-    recs: &[u32],
-    notes: &Notes,
-    code: &mut [u32],
-    consts: &mut [u32],
-    frame: &mut Frame,
-    r: usize,
-)
-    ensures { Follows recs notes code consts frame r (λ sc. fn_steps) }
+fn func(tree: &Tree, cx: &mut Context, r: usize)
+    ensures { Follows tree cx r (λ sc. fn_steps) }
 {
-    if detail(recs, r) != detail::NAMED {
-        return expr(recs, notes, code, consts, frame, first(recs, r));
+    if detail(tree.records, r) != detail::NAMED {
+        return expr(tree, cx, first(tree.records, r));
     }
-    let name = first(recs, r);
-    let function = next(recs, name);
-    expr(recs, notes, code, consts, frame, function);
-    store(notes, code, frame, name);
-    push_null(recs, code, consts, frame)
+    let name = first(tree.records, r);
+    let function = next(tree.records, name);
+    expr(tree, cx, function);
+    cx.store(tree.notes, name);
+    cx.push_null(tree.records)
 }
 
 // ExprKind::Table
 #[cycle(visitors)]
-fn table(
-    recs: &[u32],
-    notes: &Notes,
-    code: &mut [u32],
-    consts: &mut [u32],
-    frame: &mut Frame,
-    r: usize,
-)
-    ensures { Follows recs notes code consts frame r (λ sc. table_steps) }
+fn table(tree: &Tree, cx: &mut Context, r: usize)
+    ensures { Follows tree cx r (λ sc. table_steps) }
 {
-    let properties = first(recs, r);
-    let n = width(recs, properties);
-    all(recs, notes, code, consts, frame, properties, n);
-    push_build_table(code, frame, capped(n / 2))
+    let properties = first(tree.records, r);
+    let n = width(tree.records, properties);
+    all(tree, cx, properties, n);
+    cx.push_op(OpCode::BuildTable(capped(n / 2)))
 }
 
 // ExprKind::List
 #[cycle(visitors)]
-fn list(
-    recs: &[u32],
-    notes: &Notes,
-    code: &mut [u32],
-    consts: &mut [u32],
-    frame: &mut Frame,
-    r: usize,
-)
-    ensures { Follows recs notes code consts frame r (λ sc. list_steps) }
+fn list(tree: &Tree, cx: &mut Context, r: usize)
+    ensures { Follows tree cx r (λ sc. list_steps) }
 {
-    let items = first(recs, r);
-    let n = width(recs, items);
-    all(recs, notes, code, consts, frame, items, n);
-    push_build_list(code, frame, capped(n))
+    let items = first(tree.records, r);
+    let n = width(tree.records, items);
+    all(tree, cx, items, n);
+    cx.push_op(OpCode::BuildList(capped(n)))
 }
 
 // ExprKind::Binary
 #[cycle(visitors)]
-fn binary(
-    recs: &[u32],
-    notes: &Notes,
-    code: &mut [u32],
-    consts: &mut [u32],
-    frame: &mut Frame,
-    r: usize,
-)
-    ensures { Follows recs notes code consts frame r (λ sc. binary_steps) }
+fn binary(tree: &Tree, cx: &mut Context, r: usize)
+    ensures { Follows tree cx r (λ sc. binary_steps) }
 {
-    let operator = binary_operator(recs, r);
+    let operator = binary_operator(tree.records, r);
     match operator {
-        BinOp::And => and(recs, notes, code, consts, frame, r),
-        BinOp::Or => or(recs, notes, code, consts, frame, r),
+        BinOp::And => and(tree, cx, r),
+        BinOp::Or => or(tree, cx, r),
         _ => {
-            let left = first(recs, r);
-            let right = next(recs, left);
-            expr(recs, notes, code, consts, frame, left);
-            expr(recs, notes, code, consts, frame, right);
-            push_binary(code, frame, operator, r)
+            let left = first(tree.records, r);
+            let right = next(tree.records, left);
+            expr(tree, cx, left);
+            expr(tree, cx, right);
+            push_binary(cx, operator, r)
         }
     }
 }
 
 // BinOp::And
 #[cycle(visitors)]
-fn and(
-    recs: &[u32],
-    notes: &Notes,
-    code: &mut [u32],
-    consts: &mut [u32],
-    frame: &mut Frame,
-    r: usize,
-)
-    ensures { Follows recs notes code consts frame r (λ sc w k. short_steps JumpIfFalseOrPop) }
+fn and(tree: &Tree, cx: &mut Context, r: usize)
+    ensures { Follows tree cx r (λ sc w k. short_steps JumpIfFalseOrPop) }
 {
-    let left = first(recs, r);
-    let right = next(recs, left);
-    let label = get_label(frame);
-    expr(recs, notes, code, consts, frame, left);
-    push_jump_if_false_or_pop(code, frame, label);
-    expr(recs, notes, code, consts, frame, right);
-    push_label(code, frame, label)
+    let left = first(tree.records, r);
+    let right = next(tree.records, left);
+    let label = cx.get_label();
+    expr(tree, cx, left);
+    cx.push_op(OpCode::JumpIfFalseOrPop(label));
+    expr(tree, cx, right);
+    cx.push_label(label)
 }
 
 // BinOp::Or
 #[cycle(visitors)]
-fn or(
-    recs: &[u32],
-    notes: &Notes,
-    code: &mut [u32],
-    consts: &mut [u32],
-    frame: &mut Frame,
-    r: usize,
-)
-    ensures { Follows recs notes code consts frame r (λ sc w k. short_steps JumpIfTrueOrPop) }
+fn or(tree: &Tree, cx: &mut Context, r: usize)
+    ensures { Follows tree cx r (λ sc w k. short_steps JumpIfTrueOrPop) }
 {
-    let left = first(recs, r);
-    let right = next(recs, left);
-    let label = get_label(frame);
-    expr(recs, notes, code, consts, frame, left);
-    push_jump_if_true_or_pop(code, frame, label);
-    expr(recs, notes, code, consts, frame, right);
-    push_label(code, frame, label)
+    let left = first(tree.records, r);
+    let right = next(tree.records, left);
+    let label = cx.get_label();
+    expr(tree, cx, left);
+    cx.push_op(OpCode::JumpIfTrueOrPop(label));
+    expr(tree, cx, right);
+    cx.push_label(label)
 }
 
 // ExprKind::Member
 #[cycle(visitors)]
-fn member(
-    recs: &[u32],
-    notes: &Notes,
-    code: &mut [u32],
-    consts: &mut [u32],
-    frame: &mut Frame,
-    r: usize,
-)
-    ensures { Follows recs notes code consts frame r member_steps }
+fn member(tree: &Tree, cx: &mut Context, r: usize)
+    ensures { Follows tree cx r member_steps }
 {
-    let table = first(recs, r);
-    let property = property_of(recs, r);
-    expr(recs, notes, code, consts, frame, table);
-    if is_unlabelled(recs, frame, r) {
-        prop(recs, notes, code, consts, frame, r, property);
-        return push_get(code, frame, property);
+    let table = first(tree.records, r);
+    let property = property_of(tree.records, r);
+    expr(tree, cx, table);
+    if is_unlabelled(tree, cx, r) {
+        prop(tree, cx, r, property);
+        return push_get(cx, property);
     }
-    let safe_label = get_label(frame);
-    push_safe_jump(recs, code, frame, r, safe_label);
-    prop(recs, notes, code, consts, frame, r, property);
-    push_get(code, frame, property);
-    push_label(code, frame, safe_label)
+    let safe_label = cx.get_label();
+    push_safe_jump(tree, cx, r, safe_label);
+    prop(tree, cx, r, property);
+    push_get(cx, property);
+    cx.push_label(safe_label)
 }
 
 // visit_member_property, of a Member or a Left
 #[cycle(visitors)]
-fn prop(
-    recs: &[u32],
-    notes: &Notes,
-    code: &mut [u32],
-    consts: &mut [u32],
-    frame: &mut Frame,
-    r: usize,
-    property: MemberKind,
-)
-    ensures { Follows recs notes code consts frame r (λ sc. property_steps property) }
+fn prop(tree: &Tree, cx: &mut Context, r: usize, property: MemberKind)
+    ensures { Follows tree cx r (λ sc. property_steps property) }
 {
-    let before = first(recs, r);
-    let held = next(recs, before);
+    let before = first(tree.records, r);
+    let held = next(tree.records, before);
     match property {
-        MemberKind::Bracket => expr(recs, notes, code, consts, frame, held),
+        MemberKind::Bracket => expr(tree, cx, held),
         MemberKind::Dot | MemberKind::DoubleColon => {
-            let name = name_of(recs, held);
-            push_load_const(recs, code, consts, frame, ConstValue::Str(name))
+            let name = name_of(tree.records, held);
+            cx.push_load_const(tree.records, ConstValue::Str(name))
         }
         _ => {}
     }
@@ -437,544 +322,389 @@ fn prop(
 
 // ExprKind::Call; one that is returned ends in ReturnCall.
 #[cycle(visitors)]
-fn call(
-    recs: &[u32],
-    notes: &Notes,
-    code: &mut [u32],
-    consts: &mut [u32],
-    frame: &mut Frame,
-    r: usize,
-    tail: bool,
-)
-    ensures { Follows recs notes code consts frame r (λ sc. call_steps (call_of tail)) }
+fn call(tree: &Tree, cx: &mut Context, r: usize, tail: bool)
+    ensures { Follows tree cx r (λ sc. call_steps (call_of tail)) }
 {
-    let callee = first(recs, r);
-    let arguments = next(recs, callee);
-    let n = arguments_len(recs, arguments);
-    let handlers = nth(recs, arguments, n);
-    let argument_count = argument_count(recs, callee, n);
-    called(recs, notes, code, consts, frame, callee);
-    all(recs, notes, code, consts, frame, arguments, n);
+    let callee = first(tree.records, r);
+    let arguments = next(tree.records, callee);
+    let n = arguments_len(tree.records, arguments);
+    let handlers = nth(tree.records, arguments, n);
+    let argument_count = argument_count(tree.records, callee, n);
+    called(tree, cx, callee);
+    all(tree, cx, arguments, n);
     if handlers == 0 {
-        return push_calling(code, frame, tail, argument_count);
+        return push_calling(cx, tail, argument_count);
     }
-    let end_label = get_label(frame);
-    let handler_label = registers(recs, notes, code, frame, handlers);
-    push_call(code, frame, argument_count);
-    push_jump(code, frame, end_label);
-    bodies(
-        recs,
-        notes,
-        code,
-        consts,
-        frame,
-        handlers,
-        handler_label,
-        end_label,
-    );
-    push_label(code, frame, end_label)
+    let end_label = cx.get_label();
+    let handler_label = registers(tree, cx, handlers);
+    cx.push_op(OpCode::Call(argument_count));
+    cx.push_op(OpCode::Jump(end_label));
+    bodies(tree, cx, handlers, handler_label, end_label);
+    cx.push_label(end_label)
 }
 
 // A Call's callee: a method's table is its first argument.
 #[cycle(visitors)]
-fn called(
-    recs: &[u32],
-    notes: &Notes,
-    code: &mut [u32],
-    consts: &mut [u32],
-    frame: &mut Frame,
-    callee: usize,
-)
-    ensures { Visits recs notes code consts frame Callee callee }
+fn called(tree: &Tree, cx: &mut Context, callee: usize)
+    ensures { Visits tree cx Callee callee }
 {
     if callee == 0 {
         return;
     }
-    if !is_method(recs, callee) {
-        return expr(recs, notes, code, consts, frame, callee);
+    if !is_method(tree.records, callee) {
+        return expr(tree, cx, callee);
     }
-    let table = first(recs, callee);
-    let property = property_of(recs, callee);
-    expr(recs, notes, code, consts, frame, table);
-    if is_unlabelled(recs, frame, callee) {
-        push_copy(code, frame, 1);
-        prop(recs, notes, code, consts, frame, callee, property);
-        push_get(code, frame, property);
-        return push_swap(code, frame, 2);
+    let table = first(tree.records, callee);
+    let property = property_of(tree.records, callee);
+    expr(tree, cx, table);
+    if is_unlabelled(tree, cx, callee) {
+        cx.push_op(OpCode::Copy(1));
+        prop(tree, cx, callee, property);
+        push_get(cx, property);
+        return cx.push_op(OpCode::Swap(2));
     }
-    let safe_label = get_label(frame);
-    push_safe_jump(recs, code, frame, callee, safe_label);
-    push_copy(code, frame, 1);
-    prop(recs, notes, code, consts, frame, callee, property);
-    push_get(code, frame, property);
-    push_swap(code, frame, 2);
-    push_label(code, frame, safe_label)
+    let safe_label = cx.get_label();
+    push_safe_jump(tree, cx, callee, safe_label);
+    cx.push_op(OpCode::Copy(1));
+    prop(tree, cx, callee, property);
+    push_get(cx, property);
+    cx.push_op(OpCode::Swap(2));
+    cx.push_label(safe_label)
 }
 
 // The Handlers or Cases from this one on: each behind its label, the labels one behind the other, and a jump to the end.
 #[cycle(visitors)]
-fn bodies(
-    recs: &[u32],
-    notes: &Notes,
-    code: &mut [u32],
-    consts: &mut [u32],
-    frame: &mut Frame,
-    first: usize,
-    first_label: LabelId,
-    end_label: LabelId,
-)
-    ensures { Bodies recs notes code consts frame first first_label.0 end_label.0 }
+fn bodies(tree: &Tree, cx: &mut Context, first: usize, first_label: LabelId, end_label: LabelId)
+    ensures { Bodies tree cx first first_label.0 end_label.0 }
 {
     let mut at = first;
     let mut label = first_label;
     while at != 0 {
-        push_label(code, frame, label);
-        expr(recs, notes, code, consts, frame, at);
-        push_jump(code, frame, end_label);
-        at = next(recs, at);
+        cx.push_label(label);
+        expr(tree, cx, at);
+        cx.push_op(OpCode::Jump(end_label));
+        at = next(tree.records, at);
         label = next_label(label);
     }
 }
 
 // A Handler behind its label.
 #[cycle(visitors)]
-fn catch(
-    recs: &[u32],
-    notes: &Notes,
-    code: &mut [u32],
-    consts: &mut [u32],
-    frame: &mut Frame,
-    handler: usize,
-)
-    ensures { Catches recs notes code consts frame handler }
+fn catch(tree: &Tree, cx: &mut Context, handler: usize)
+    ensures { Catches tree cx handler }
 {
-    let effect = first(recs, handler);
-    let params = next(recs, effect);
-    let body = next(recs, params);
+    let effect = first(tree.records, handler);
+    let params = next(tree.records, effect);
+    let body = next(tree.records, params);
     let value = ConstValue::Effect(capped(handler));
-    push_load_const(recs, code, consts, frame, value);
-    push_check_effect(code, frame, params_len(recs, params));
-    expr(recs, notes, code, consts, frame, params);
-    expr(recs, notes, code, consts, frame, body)
+    cx.push_load_const(tree.records, value);
+    cx.push_op(OpCode::CheckEffect(params_len(tree.records, params)));
+    expr(tree, cx, params);
+    expr(tree, cx, body)
 }
 
 // ExprKind::If
 #[cycle(visitors)]
-fn cond(
-    recs: &[u32],
-    notes: &Notes,
-    code: &mut [u32],
-    consts: &mut [u32],
-    frame: &mut Frame,
-    r: usize,
-)
-    ensures { Follows recs notes code consts frame r (λ sc. if_steps) }
+fn cond(tree: &Tree, cx: &mut Context, r: usize)
+    ensures { Follows tree cx r (λ sc. if_steps) }
 {
-    let test = first(recs, r);
-    let consequent = next(recs, test);
-    let false_label = get_label(frame);
-    let end_label = get_label(frame);
-    expr(recs, notes, code, consts, frame, test);
-    push_pop_jump_if_false(code, frame, false_label);
-    expr(recs, notes, code, consts, frame, consequent);
-    push_jump(code, frame, end_label);
-    push_label(code, frame, false_label);
-    if detail(recs, r) == detail::WITH_ELSE {
-        let alternate = next(recs, consequent);
-        expr(recs, notes, code, consts, frame, alternate);
-        return push_label(code, frame, end_label);
+    let test = first(tree.records, r);
+    let consequent = next(tree.records, test);
+    let false_label = cx.get_label();
+    let end_label = cx.get_label();
+    expr(tree, cx, test);
+    cx.push_op(OpCode::PopJumpIfFalse(false_label));
+    expr(tree, cx, consequent);
+    cx.push_op(OpCode::Jump(end_label));
+    cx.push_label(false_label);
+    if detail(tree.records, r) == detail::WITH_ELSE {
+        let alternate = next(tree.records, consequent);
+        expr(tree, cx, alternate);
+        return cx.push_label(end_label);
     }
-    push_null(recs, code, consts, frame);
-    push_label(code, frame, end_label)
+    cx.push_null(tree.records);
+    cx.push_label(end_label)
 }
 
 // ExprKind::Match
 #[cycle(visitors)]
-fn cases(
-    recs: &[u32],
-    notes: &Notes,
-    code: &mut [u32],
-    consts: &mut [u32],
-    frame: &mut Frame,
-    r: usize,
-)
-    ensures { Follows recs notes code consts frame r (λ sc. match_steps) }
+fn cases(tree: &Tree, cx: &mut Context, r: usize)
+    ensures { Follows tree cx r (λ sc. match_steps) }
 {
-    let value = first(recs, r);
+    let value = first(tree.records, r);
     // A Match without a value takes no label; no accepted table has one.
     if value == 0 {
         return;
     }
-    let cases = next(recs, value);
-    let end_label = get_label(frame);
-    expr(recs, notes, code, consts, frame, value);
-    let block_label = get_labels(frame, width(recs, cases));
-    patterns(recs, notes, code, consts, frame, cases, block_label);
-    push_null(recs, code, consts, frame);
-    push_jump(code, frame, end_label);
-    bodies(
-        recs,
-        notes,
-        code,
-        consts,
-        frame,
-        cases,
-        block_label,
-        end_label,
-    );
-    push_label(code, frame, end_label);
-    push_swap(code, frame, 2);
-    push_pop(code, frame)
+    let cases = next(tree.records, value);
+    let end_label = cx.get_label();
+    expr(tree, cx, value);
+    let block_label = cx.get_labels(width(tree.records, cases));
+    patterns(tree, cx, cases, block_label);
+    cx.push_null(tree.records);
+    cx.push_op(OpCode::Jump(end_label));
+    bodies(tree, cx, cases, block_label, end_label);
+    cx.push_label(end_label);
+    cx.push_op(OpCode::Swap(2));
+    cx.push_op(OpCode::Pop)
 }
 
 // ExprKind::Loop
 #[cycle(visitors)]
-fn repeat(
-    recs: &[u32],
-    notes: &Notes,
-    code: &mut [u32],
-    consts: &mut [u32],
-    frame: &mut Frame,
-    r: usize,
-)
-    ensures { Follows recs notes code consts frame r (λ sc. loop_steps) }
+fn repeat(tree: &Tree, cx: &mut Context, r: usize)
+    ensures { Follows tree cx r (λ sc. loop_steps) }
 {
-    let body = first(recs, r);
-    let continue_label = get_label(frame);
-    let break_label = get_label(frame);
-    begin_loop(frame, continue_label);
-    push_label(code, frame, continue_label);
-    expr(recs, notes, code, consts, frame, body);
-    push_pop(code, frame);
-    push_jump_back_edge(code, frame, continue_label);
-    push_label(code, frame, break_label);
-    push_null(recs, code, consts, frame);
-    end_loop(frame)
+    let body = first(tree.records, r);
+    let continue_label = cx.get_label();
+    let break_label = cx.get_label();
+    cx.begin_loop(continue_label);
+    cx.push_label(continue_label);
+    expr(tree, cx, body);
+    cx.push_op(OpCode::Pop);
+    cx.push_op(OpCode::JumpBackEdge(continue_label));
+    cx.push_label(break_label);
+    cx.push_null(tree.records);
+    cx.end_loop()
 }
 
 // ExprKind::While
 #[cycle(visitors)]
-fn whilst(
-    recs: &[u32],
-    notes: &Notes,
-    code: &mut [u32],
-    consts: &mut [u32],
-    frame: &mut Frame,
-    r: usize,
-)
-    ensures { Follows recs notes code consts frame r (λ sc. while_steps) }
+fn whilst(tree: &Tree, cx: &mut Context, r: usize)
+    ensures { Follows tree cx r (λ sc. while_steps) }
 {
-    let test = first(recs, r);
-    let body = next(recs, test);
-    let continue_label = get_label(frame);
-    let break_label = get_label(frame);
-    begin_loop(frame, continue_label);
-    push_label(code, frame, continue_label);
-    expr(recs, notes, code, consts, frame, test);
-    push_pop_jump_if_false(code, frame, break_label);
-    expr(recs, notes, code, consts, frame, body);
-    push_pop(code, frame);
-    push_jump_back_edge(code, frame, continue_label);
-    push_label(code, frame, break_label);
-    push_null(recs, code, consts, frame);
-    end_loop(frame)
+    let test = first(tree.records, r);
+    let body = next(tree.records, test);
+    let continue_label = cx.get_label();
+    let break_label = cx.get_label();
+    cx.begin_loop(continue_label);
+    cx.push_label(continue_label);
+    expr(tree, cx, test);
+    cx.push_op(OpCode::PopJumpIfFalse(break_label));
+    expr(tree, cx, body);
+    cx.push_op(OpCode::Pop);
+    cx.push_op(OpCode::JumpBackEdge(continue_label));
+    cx.push_label(break_label);
+    cx.push_null(tree.records);
+    cx.end_loop()
 }
 
 // ExprKind::For
 #[cycle(visitors)]
-fn each(
-    recs: &[u32],
-    notes: &Notes,
-    code: &mut [u32],
-    consts: &mut [u32],
-    frame: &mut Frame,
-    r: usize,
-)
-    ensures { Follows recs notes code consts frame r (λ sc. for_steps) }
+fn each(tree: &Tree, cx: &mut Context, r: usize)
+    ensures { Follows tree cx r (λ sc. for_steps) }
 {
-    let left = first(recs, r);
-    let n = p(recs, r);
-    let right = nth(recs, left, n as usize);
-    let body = next(recs, right);
-    let continue_label = get_label(frame);
-    let break_label = get_label(frame);
-    let body_label = get_label(frame);
-    begin_loop(frame, continue_label);
-    expr(recs, notes, code, consts, frame, right);
-    iterate(recs, code, consts, frame, continue_label, body_label);
-    push_jump(code, frame, break_label);
-    push_label(code, frame, body_label);
-    push_mark_add_stack_size(code, frame, 3);
-    push_pop(code, frame);
-    targets(recs, notes, code, consts, frame, left, n);
-    expr(recs, notes, code, consts, frame, body);
-    end_for(recs, code, consts, frame, continue_label, break_label)
+    let left = first(tree.records, r);
+    let n = p(tree.records, r);
+    let right = nth(tree.records, left, n as usize);
+    let body = next(tree.records, right);
+    let continue_label = cx.get_label();
+    let break_label = cx.get_label();
+    let body_label = cx.get_label();
+    cx.begin_loop(continue_label);
+    expr(tree, cx, right);
+    iterate(tree, cx, continue_label, body_label);
+    cx.push_op(OpCode::Jump(break_label));
+    cx.push_label(body_label);
+    cx.push_op(OpCode::MarkAddStackSize(3));
+    cx.push_op(OpCode::Pop);
+    targets(tree, cx, left, n);
+    expr(tree, cx, body);
+    end_for(tree, cx, continue_label, break_label)
 }
 
 // ExprKind::Return
 #[cycle(visitors)]
-fn ret(
-    recs: &[u32],
-    notes: &Notes,
-    code: &mut [u32],
-    consts: &mut [u32],
-    frame: &mut Frame,
-    r: usize,
-)
-    ensures { Follows recs notes code consts frame r return_steps }
+fn ret(tree: &Tree, cx: &mut Context, r: usize)
+    ensures { Follows tree cx r return_steps }
 {
-    if is_in_do(recs, frame) {
-        return cut(recs, frame, error::RETURN_OUTSIDE_FUNCTION, r);
+    if cx.is_in_do(tree.records) {
+        return cx.cut(tree.records, error::RETURN_OUTSIDE_FUNCTION, r);
     }
-    let argument = first(recs, r);
-    push_return_label(code, frame);
-    if is_tail(recs, argument) {
-        call(recs, notes, code, consts, frame, argument, true);
-        return push_null(recs, code, consts, frame);
+    let argument = first(tree.records, r);
+    push_return_label(cx);
+    if is_tail(tree.records, argument) {
+        call(tree, cx, argument, true);
+        return cx.push_null(tree.records);
     }
-    expr(recs, notes, code, consts, frame, argument);
-    push_return(code, frame);
-    push_null(recs, code, consts, frame)
+    expr(tree, cx, argument);
+    cx.push_op(OpCode::Return);
+    cx.push_null(tree.records)
 }
 
 // ExprKind::Import
 #[cycle(visitors)]
-fn import(
-    recs: &[u32],
-    notes: &Notes,
-    code: &mut [u32],
-    consts: &mut [u32],
-    frame: &mut Frame,
-    r: usize,
-)
-    ensures { Follows recs notes code consts frame r (λ sc. import_steps) }
+fn import(tree: &Tree, cx: &mut Context, r: usize)
+    ensures { Follows tree cx r (λ sc. import_steps) }
 {
-    push_import(recs, code, consts, frame, q(recs, r));
-    match detail(recs, r) {
+    cx.push_import(tree.records, q(tree.records, r));
+    match detail(tree.records, r) {
         detail::SIMPLE | detail::WITH_ALIAS => {
-            simple(recs, notes, code, frame, r);
-            push_null(recs, code, consts, frame)
+            simple(tree, cx, r);
+            cx.push_null(tree.records)
         }
         detail::ITEMS => {
-            let items = nth(recs, first(recs, r), p(recs, r) as usize);
-            all(recs, notes, code, consts, frame, items, width(recs, items));
-            push_pop(code, frame);
-            push_null(recs, code, consts, frame)
+            let items = nth(
+                tree.records,
+                first(tree.records, r),
+                p(tree.records, r) as usize,
+            );
+            all(tree, cx, items, width(tree.records, items));
+            cx.push_op(OpCode::Pop);
+            cx.push_null(tree.records)
         }
         _ => {
-            push_import_glob(code, frame);
-            push_null(recs, code, consts, frame)
+            cx.push_op(OpCode::ImportGlob);
+            cx.push_null(tree.records)
         }
     }
 }
 
 // ExprKind::GloAssign
 #[cycle(visitors)]
-fn glo(
-    recs: &[u32],
-    notes: &Notes,
-    code: &mut [u32],
-    consts: &mut [u32],
-    frame: &mut Frame,
-    r: usize,
-)
-    ensures { Follows recs notes code consts frame r (λ sc. glo_assign_steps) }
+fn glo(tree: &Tree, cx: &mut Context, r: usize)
+    ensures { Follows tree cx r (λ sc. glo_assign_steps) }
 {
-    let left = first(recs, r);
-    let right = next(recs, left);
-    expr(recs, notes, code, consts, frame, right);
-    store(notes, code, frame, left);
-    push_null(recs, code, consts, frame)
+    let left = first(tree.records, r);
+    let right = next(tree.records, left);
+    expr(tree, cx, right);
+    cx.store(tree.notes, left);
+    cx.push_null(tree.records)
 }
 
 // ExprKind::Assign
 #[cycle(visitors)]
-fn assign(
-    recs: &[u32],
-    notes: &Notes,
-    code: &mut [u32],
-    consts: &mut [u32],
-    frame: &mut Frame,
-    r: usize,
-)
-    ensures { Follows recs notes code consts frame r (λ sc. assign_steps) }
+fn assign(tree: &Tree, cx: &mut Context, r: usize)
+    ensures { Follows tree cx r (λ sc. assign_steps) }
 {
-    let left = first(recs, r);
-    let right = next(recs, left);
-    expr(recs, notes, code, consts, frame, right);
-    target(recs, notes, code, consts, frame, left);
-    push_null(recs, code, consts, frame)
+    let left = first(tree.records, r);
+    let right = next(tree.records, left);
+    expr(tree, cx, right);
+    target(tree, cx, left);
+    cx.push_null(tree.records)
 }
 
 // visit_assign_left
 #[cycle(visitors)]
-fn target(
-    recs: &[u32],
-    notes: &Notes,
-    code: &mut [u32],
-    consts: &mut [u32],
-    frame: &mut Frame,
-    left: usize,
-)
-    ensures { Visits recs notes code consts frame Target left }
+fn target(tree: &Tree, cx: &mut Context, left: usize)
+    ensures { Visits tree cx Target left }
 {
     if left == 0 {
         return;
     }
-    if kind(recs, left) != kind::LEFT {
+    if kind(tree.records, left) != kind::LEFT {
         return;
     }
-    let ident = first(recs, left);
-    if detail(recs, left) == detail::PLAIN {
-        return store(notes, code, frame, ident);
+    let ident = first(tree.records, left);
+    if detail(tree.records, left) == detail::PLAIN {
+        return cx.store(tree.notes, ident);
     }
-    let property = left_property(recs, left);
-    load(notes, code, frame, ident);
-    prop(recs, notes, code, consts, frame, left, property);
-    push_set(code, frame, property);
-    store(notes, code, frame, ident)
+    let property = left_property(tree.records, left);
+    cx.load(tree.notes, ident);
+    prop(tree, cx, left, property);
+    push_set(cx, property);
+    cx.store(tree.notes, ident)
 }
 
 // ExprKind::AssignOp
 #[cycle(visitors)]
-fn update(
-    recs: &[u32],
-    notes: &Notes,
-    code: &mut [u32],
-    consts: &mut [u32],
-    frame: &mut Frame,
-    r: usize,
-)
-    ensures { Follows recs notes code consts frame r (λ sc. assign_op_steps) }
+fn update(tree: &Tree, cx: &mut Context, r: usize)
+    ensures { Follows tree cx r (λ sc. assign_op_steps) }
 {
-    let left = first(recs, r);
-    let right = next(recs, left);
-    let operator = binary_operator(recs, r);
-    if is_short_assign(recs, operator, left) {
-        return short(recs, notes, code, consts, frame, r, operator);
+    let left = first(tree.records, r);
+    let right = next(tree.records, left);
+    let operator = binary_operator(tree.records, r);
+    if is_short_assign(tree.records, operator, left) {
+        return short(tree, cx, r, operator);
     }
-    fetch(recs, notes, code, consts, frame, left);
-    expr(recs, notes, code, consts, frame, right);
-    push_binary(code, frame, operator, r);
-    after(recs, notes, code, frame, left);
-    push_null(recs, code, consts, frame)
+    fetch(tree, cx, left);
+    expr(tree, cx, right);
+    push_binary(cx, operator, r);
+    after(tree, cx, left);
+    cx.push_null(tree.records)
 }
 
 // `and=` and `or=` on a plain name, where the Rust panics (document 02, job 1): as And and Or, with the Left loaded before and stored after.
 #[cycle(visitors)]
-fn short(
-    recs: &[u32],
-    notes: &Notes,
-    code: &mut [u32],
-    consts: &mut [u32],
-    frame: &mut Frame,
-    r: usize,
-    operator: BinOp,
-)
-    ensures { Follows recs notes code consts frame r (λ sc w k. short_assign_steps (short_jump operator)) }
+fn short(tree: &Tree, cx: &mut Context, r: usize, operator: BinOp)
+    ensures { Follows tree cx r (λ sc w k. short_assign_steps (short_jump operator)) }
 {
-    let left = first(recs, r);
-    let right = next(recs, left);
-    let label = get_label(frame);
-    fetch(recs, notes, code, consts, frame, left);
-    push_short_jump(code, frame, operator, label);
-    expr(recs, notes, code, consts, frame, right);
-    push_label(code, frame, label);
-    after(recs, notes, code, frame, left);
-    push_null(recs, code, consts, frame)
+    let left = first(tree.records, r);
+    let right = next(tree.records, left);
+    let label = cx.get_label();
+    fetch(tree, cx, left);
+    push_short_jump(cx, operator, label);
+    expr(tree, cx, right);
+    cx.push_label(label);
+    after(tree, cx, left);
+    cx.push_null(tree.records)
 }
 
 // An AssignOp's Left before the right side: its old value is loaded.
 #[cycle(visitors)]
-fn fetch(
-    recs: &[u32],
-    notes: &Notes,
-    code: &mut [u32],
-    consts: &mut [u32],
-    frame: &mut Frame,
-    left: usize,
-)
-    ensures { Visits recs notes code consts frame Before left }
+fn fetch(tree: &Tree, cx: &mut Context, left: usize)
+    ensures { Visits tree cx Before left }
 {
     if left == 0 {
         return;
     }
-    if kind(recs, left) != kind::LEFT {
+    if kind(tree.records, left) != kind::LEFT {
         return;
     }
-    load(notes, code, frame, first(recs, left));
-    if detail(recs, left) == detail::PLAIN {
+    cx.load(tree.notes, first(tree.records, left));
+    if detail(tree.records, left) == detail::PLAIN {
         return;
     }
-    let property = left_property(recs, left);
+    let property = left_property(tree.records, left);
     if is_meta(property) {
-        push_copy(code, frame, 1);
-        return push_get(code, frame, property);
+        cx.push_op(OpCode::Copy(1));
+        return push_get(cx, property);
     }
-    prop(recs, notes, code, consts, frame, left, property);
-    push_copy(code, frame, 2);
-    push_copy(code, frame, 2);
-    push_get(code, frame, property)
+    prop(tree, cx, left, property);
+    cx.push_op(OpCode::Copy(2));
+    cx.push_op(OpCode::Copy(2));
+    push_get(cx, property)
 }
 
 // ExprKind::AssignUnpack
 #[cycle(visitors)]
-fn unpack(
-    recs: &[u32],
-    notes: &Notes,
-    code: &mut [u32],
-    consts: &mut [u32],
-    frame: &mut Frame,
-    r: usize,
-)
-    ensures { Follows recs notes code consts frame r (λ sc. assign_unpack_steps) }
+fn unpack(tree: &Tree, cx: &mut Context, r: usize)
+    ensures { Follows tree cx r (λ sc. assign_unpack_steps) }
 {
-    let left = first(recs, r);
-    let n = p(recs, r);
-    let right = nth(recs, left, n as usize);
-    expr(recs, notes, code, consts, frame, right);
-    copies(code, frame, n);
+    let left = first(tree.records, r);
+    let n = p(tree.records, r);
+    let right = nth(tree.records, left, n as usize);
+    expr(tree, cx, right);
+    copies(cx, n);
     let mut at = left;
-    let mut i: u32 = 0;
-    while i < n {
-        push_load_const(recs, code, consts, frame, ConstValue::Int(i, 0));
-        push_get_item(code, frame);
-        target(recs, notes, code, consts, frame, at);
-        at = next(recs, at);
-        i += 1;
+    for i in 0..n {
+        cx.push_load_const(tree.records, ConstValue::Int(i, 0));
+        cx.push_op(OpCode::GetItem);
+        target(tree, cx, at);
+        at = next(tree.records, at);
     }
-    push_null(recs, code, consts, frame)
+    cx.push_null(tree.records)
 }
 
 // ExprKind::AssignMulti
 #[cycle(visitors)]
-fn multi(
-    recs: &[u32],
-    notes: &Notes,
-    code: &mut [u32],
-    consts: &mut [u32],
-    frame: &mut Frame,
-    r: usize,
-)
-    ensures { Follows recs notes code consts frame r (λ sc. assign_multi_steps) }
+fn multi(tree: &Tree, cx: &mut Context, r: usize)
+    ensures { Follows tree cx r (λ sc. assign_multi_steps) }
 {
-    let left = first(recs, r);
-    let n = p(recs, r) as usize;
-    if n + n != width(recs, left) {
-        return refuse(frame, RunRule::Lengths, r);
+    let left = first(tree.records, r);
+    let n = p(tree.records, r) as usize;
+    if n + n != width(tree.records, left) {
+        return cx.refuse(RunRule::Lengths, r);
     }
-    let right = nth(recs, left, n);
-    all(recs, notes, code, consts, frame, right, n);
-    let mut at = nth(recs, left, less(n));
-    let mut i = n;
-    while 0 < i {
+    let right = nth(tree.records, left, n);
+    all(tree, cx, right, n);
+    let mut at = nth(tree.records, left, less(n));
+    for _ in 0..n {
         // Never: a Left stands behind its record, and a note names the sibling before it.
         if at <= r {
             return;
         }
-        target(recs, notes, code, consts, frame, at);
-        at = earlier(notes, at);
-        i -= 1;
+        target(tree, cx, at);
+        at = earlier(tree.notes, at);
     }
-    push_null(recs, code, consts, frame)
+    cx.push_null(tree.records)
 }

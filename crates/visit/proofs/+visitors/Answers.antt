@@ -1,4 +1,4 @@
-use Prim.Native.Nat.{ℕ, ◌<◌, ◌%◌, ◌-◌, ◌≤◌, ◌+◌, ◌*◌, ◌/◌}
+use Prim.Native.Nat.{ℕ, ◌<◌, ◌%◌, ◌-◌, ◌≤◌, ◌+◌, ◌/◌}
 use Rattle.plain.specs.Operators.{is_short}
 use mathlib.Core.Bool.{false}
 use mathlib.Core.Path.{refl, ◌∙◌, sym, ap, ap₂, subst, ◌≡◌}
@@ -7,42 +7,9 @@ use borrow.Author.Rules.{rules}
 use lib.Dec.{lit<, eqb}
 use Rattle.tables.specs.Record.{size, word, words}
 use Rattle.tables.specs.Forest.{first, forest, own_tree, Nodes, children}
-use Rattle.emit.specs.Rep.{lent}
-use Rattle.visit.proofs.FallLaws.{
-  falls_along,
-  falls_to,
-  child1,
-  child2,
-  falls_rank2,
-  falls_next,
-  linked_past,
-  falls_rank,
-  falls_some,
-  falls_below,
-  linked_nth,
-  falls_past,
-  falls_child,
-}
-use Rattle.visit.proofs.LoopLaws.{
-  all_start,
-  all_again,
-  all_none,
-  all_end,
-  blocking_start,
-  blocking_last,
-  blocking_again,
-  blocking_still,
-  bodying_start,
-  bodying_again,
-  bodying_end,
-  downing_start,
-  downing_again,
-  downing_end,
-  downing_never,
-  unpacking_start,
-  unpacking_again,
-  unpacking_end,
-}
+use Rattle.context.specs.Rep.{lent}
+use Rattle.visit.proofs.FallLaws.{falls_along, falls_to, child1, child2, falls_next, linked_past, falls_rank, falls_some, falls_below, linked_nth, falls_past, falls_child}
+use Rattle.visit.proofs.LoopLaws.{all_again, all_none, all_end, blocking_start, blocking_last, blocking_again, blocking_still, bodying_start, bodying_again, bodying_end, downing_start, downing_again, downing_end, downing_never, unpacking_start, unpacking_again, unpacking_end}
 use Rattle.rules.specs.Marker.{
   JumpIfFalseOrPop,
   Pop,
@@ -66,9 +33,9 @@ use Rattle.rules.specs.Marker.{
 }
 use Rattle.rules.specs.Step.{Expr, Target, Callee, width, Get, Before, Set, push_op, Tail, After}
 use Rattle.rules.specs.Run.{exec, number_of}
-use Rattle.emit.specs.Does.{doing, does, nth, own_stream}
-use Rattle.emit.proofs.RepLaws.{label, labelled, resim, given, stay, halted, finished}
-use Rattle.emit.proofs.MarkLaws.{placed, jumped, said, backed}
+use Rattle.context.specs.Does.{doing, does, nth, own_stream}
+use Rattle.context.proofs.RepLaws.{label, labelled, resim, given, stay, halted, finished}
+use Rattle.context.proofs.MarkLaws.{placed, jumped, said, backed}
 use Rattle.visit.proofs.ArmLaws.{
   next_of,
   visited,
@@ -127,54 +94,56 @@ use Rattle.visit.proofs.KindLaws.{
   update_run,
 }
 use Rattle.pool.specs.Value.{child, below}
-use Rattle.emit.proofs.PartLaws.{block_none, nth_next, visits_part}
+use Rattle.context.proofs.PartLaws.{block_none, nth_next, visits_part}
 use Rattle.visit.proofs.RunLaws.{block_left}
 use borrow.Author.Tests.{eq-eqb, ne_eqb, not-true, not-false, lt-ltb, le-ltb}
 use Rattle.rules.specs.Arms.{arguments, stream_steps, assign_multi_steps, is_tail}
-use Rattle.emit.specs.Words.{cap, limit}
+use Rattle.context.specs.Words.{cap}
 use Rattle.plain.specs.Operators.{call_of, short_jump, short_assign}
 use Rattle.plain.specs.Runs.{argument_count}
 use Rattle.pattern.proofs.MatchLaws.{match_none}
 use Rattle.plain.proofs.EndLaws.{below_nodes, simple_part}
-use Rattle.emit.proofs.LoopLaws.{begun, behind}
+use Rattle.context.proofs.LoopLaws.{begun, behind}
 use Rattle.plain.proofs.CountLaws.{width_past, tail_call}
-use Rattle.emit.proofs.InsideLaws.{inside_none, inside_still, inside_skipped, inside_goes}
+use Rattle.context.proofs.InsideLaws.{inside_none, inside_still, inside_skipped, inside_goes}
 use mathlib.Core.List.{[], ◌∷◌}
 use Rattle.tables.specs.declared.refusal.RunRule.TheVariants.{Lengths}
 use Rattle.rules.specs.declared.Flow.TheVariants.{Refused}
 use mathlib.Core.Logic.{◌⊎◌}
-use Rattle.emit.proofs.BarLaws.{in_do, bar_yes, bar_no}
+use Rattle.context.proofs.BarLaws.{in_do, bar_yes, bar_no}
 use mathlib.Core.Bool.{not}
 use Rattle.opcode.specs.declared.operator.BinOp.TheVariants as op
 use Rattle.visit.proofs.+visitors.Goals as goal
 
 pub all-returns-then-at-eq0 : goal.all-returns-then-at-eq0
 all-returns-then-at-eq0 t c =
-    all_none (lent c.args.recs.now c.args.notes.now) c.args.item c.args.n c.loop-left.invariant c.if-at-eq0.true
+    all_none (lent c.args.tree.now) c.args.item c.args.n c.loop.invariant c.if-at-eq0.true
 
 pub all-expr-requires : goal.all-expr-requires
 all-expr-requires t c = (
-  falls_along (size c.args.recs.now) c.args.item _ 12 13 t c.decreases (lit< tt) c.loop-left.invariant.along c.if-at-eq0.false (λ e. c.if-at-eq0.false
-      (c.loop-left.invariant.none e)),
+  falls_along (size c.args.tree.now.records.now) c.args.item _ 12 13 t c.decreases (lit< tt) c.loop.invariant.along c.if-at-eq0.false (λ e. c.if-at-eq0.false
+      (c.loop.invariant.none e)),
   tt,
 )
 
-pub all-loop-left-preserved : goal.all-loop-left-preserved
-all-loop-left-preserved t c =
-    all_again (lent c.args.recs.now c.args.notes.now) c.args.item c.args.n c.loop-left.invariant c.loop-left-test.true c.if-at-eq0.false
-    c.next-at.ensures refl c.expr.ensures c.expr.auto.code c.expr.auto.consts
+pub all-loop-preserved : goal.all-loop-preserved
+all-loop-preserved t c =
+    let lt = c.loop-test.true in
+    all_again (lent c.args.tree.now) c.args.item c.args.n c.loop.invariant (omega arith) c.if-at-eq0.false
+    c.next-at.ensures (omega arith) c.expr.ensures
 
 pub all-returns : goal.all-returns
 all-returns t c =
-    all_end (lent c.args.recs.now c.args.notes.now) c.args.item c.args.n c.loop-left.invariant c.loop-left-test.false
+    let le = c.loop-test.false in
+    all_end (lent c.args.tree.now) c.args.item c.args.n c.loop.invariant (omega arith)
 
 pub and-expr-requires : goal.and-expr-requires
 and-expr-requires t c =
-    (falls_to (size c.args.recs.now) c.args.r _ 12 5 t c.decreases (lit< tt) (child1 c.args.recs.now c.first-left.ensures), tt)
+    (falls_to (size c.args.tree.now.records.now) c.args.r _ 12 5 t c.decreases (lit< tt) (child1 c.args.tree.now.records.now c.first-left.ensures), tt)
 
 pub and-expr-requires-2 : goal.and-expr-requires-2
 and-expr-requires-2 t c = (
-  falls_to (size c.args.recs.now) c.args.r _ 12 5 t c.decreases (lit< tt) (child2 c.args.recs.now c.next-right.ensures (child1 c.args.recs.now c.first-left.ensures)),
+  falls_to (size c.args.tree.now.records.now) c.args.r _ 12 5 t c.decreases (lit< tt) (child2 c.args.tree.now.records.now c.next-right.ensures (child1 c.args.tree.now.records.now c.first-left.ensures)),
   tt,
 )
 
@@ -186,84 +155,84 @@ and-returns t c =
           let l = label c.get_label-label.ensures h in
           let h1 = labelled c.get_label-label.ensures h in
           let h2 = visited z Expr c.first-left.ensures c.expr.ensures h1 in
-          let h3 = jumped c.args.r JumpIfFalseOrPop _ refl l c.push_jump_if_false_or_pop.ensures h2 in
-          let h4 = visited z Expr (next_of c.args.recs.now c.next-right.ensures c.first-left.ensures) c.expr-2.ensures h3 in
+          let h3 = jumped c.args.r JumpIfFalseOrPop _ refl l c.push_op.ensures h2 in
+          let h4 = visited z Expr (next_of c.args.tree.now.records.now c.next-right.ensures c.first-left.ensures) c.expr-2.ensures h3 in
           placed c.args.r _ refl l c.push_label.ensures h4;
     }
 
 pub arm-returns-in-14 : goal.arm-returns-in-14
 arm-returns-in-14 t c =
-    resim (λ v z A. later_by (lent c.args.recs.now c.args.notes.now) v c.args.r (sym c.kind.ensures ∙ c.in-14.is) A)
+    resim (λ v z A. later_by (lent c.args.tree.now) v c.args.r (sym c.kind.ensures ∙ c.in-14.is) A)
     c.cond.ensures
 
 pub arm-returns-in-15 : goal.arm-returns-in-15
 arm-returns-in-15 t c =
-    resim (λ v z A. later_by (lent c.args.recs.now c.args.notes.now) v c.args.r (sym c.kind.ensures ∙ c.in-15.is) A)
+    resim (λ v z A. later_by (lent c.args.tree.now) v c.args.r (sym c.kind.ensures ∙ c.in-15.is) A)
     c.cases.ensures
 
 pub arm-returns-in-16 : goal.arm-returns-in-16
 arm-returns-in-16 t c =
-    resim (λ v z A. later_by (lent c.args.recs.now c.args.notes.now) v c.args.r (sym c.kind.ensures ∙ c.in-16.is) A)
+    resim (λ v z A. later_by (lent c.args.tree.now) v c.args.r (sym c.kind.ensures ∙ c.in-16.is) A)
     c.repeat.ensures
 
 pub arm-returns-in-17 : goal.arm-returns-in-17
 arm-returns-in-17 t c =
-    resim (λ v z A. later_by (lent c.args.recs.now c.args.notes.now) v c.args.r (sym c.kind.ensures ∙ c.in-17.is) A)
+    resim (λ v z A. later_by (lent c.args.tree.now) v c.args.r (sym c.kind.ensures ∙ c.in-17.is) A)
     c.whilst.ensures
 
 pub arm-returns-in-18 : goal.arm-returns-in-18
 arm-returns-in-18 t c =
-    resim (λ v z A. later_by (lent c.args.recs.now c.args.notes.now) v c.args.r (sym c.kind.ensures ∙ c.in-18.is) A)
+    resim (λ v z A. later_by (lent c.args.tree.now) v c.args.r (sym c.kind.ensures ∙ c.in-18.is) A)
     c.each.ensures
 
 pub arm-returns-in-19 : goal.arm-returns-in-19
 arm-returns-in-19 t c =
-    resim (λ v z A. later_by (lent c.args.recs.now c.args.notes.now) v c.args.r (sym c.kind.ensures ∙ c.in-19.is) A)
-    (c.break_loop.ensures c.args.notes.now)
+    resim (λ v z A. later_by (lent c.args.tree.now) v c.args.r (sym c.kind.ensures ∙ c.in-19.is) A)
+    c.break_loop.ensures
 
 pub arm-returns-in-20 : goal.arm-returns-in-20
 arm-returns-in-20 t c =
-    resim (λ v z A. later_by (lent c.args.recs.now c.args.notes.now) v c.args.r (sym c.kind.ensures ∙ c.in-20.is) A)
-    (c.continue_loop.ensures c.args.notes.now)
+    resim (λ v z A. later_by (lent c.args.tree.now) v c.args.r (sym c.kind.ensures ∙ c.in-20.is) A)
+    c.continue_loop.ensures
 
 pub arm-returns-in-21 : goal.arm-returns-in-21
 arm-returns-in-21 t c =
-    resim (λ v z A. later_by (lent c.args.recs.now c.args.notes.now) v c.args.r (sym c.kind.ensures ∙ c.in-21.is) A)
+    resim (λ v z A. later_by (lent c.args.tree.now) v c.args.r (sym c.kind.ensures ∙ c.in-21.is) A)
     c.ret.ensures
 
 pub arm-returns-in-22 : goal.arm-returns-in-22
 arm-returns-in-22 t c =
-    resim (λ v z A. later_by (lent c.args.recs.now c.args.notes.now) v c.args.r (sym c.kind.ensures ∙ c.in-22.is) A)
+    resim (λ v z A. later_by (lent c.args.tree.now) v c.args.r (sym c.kind.ensures ∙ c.in-22.is) A)
     c.import.ensures
 
 pub arm-returns-in-23 : goal.arm-returns-in-23
 arm-returns-in-23 t c =
-    resim (λ v z A. later_by (lent c.args.recs.now c.args.notes.now) v c.args.r (sym c.kind.ensures ∙ c.in-23.is) A)
+    resim (λ v z A. later_by (lent c.args.tree.now) v c.args.r (sym c.kind.ensures ∙ c.in-23.is) A)
     c.glo.ensures
 
 pub arm-returns-in-24 : goal.arm-returns-in-24
 arm-returns-in-24 t c =
-    resim (λ v z A. later_by (lent c.args.recs.now c.args.notes.now) v c.args.r (sym c.kind.ensures ∙ c.in-24.is) A)
+    resim (λ v z A. later_by (lent c.args.tree.now) v c.args.r (sym c.kind.ensures ∙ c.in-24.is) A)
     c.assign.ensures
 
 pub arm-returns-in-25 : goal.arm-returns-in-25
 arm-returns-in-25 t c =
-    resim (λ v z A. later_by (lent c.args.recs.now c.args.notes.now) v c.args.r (sym c.kind.ensures ∙ c.in-25.is) A)
+    resim (λ v z A. later_by (lent c.args.tree.now) v c.args.r (sym c.kind.ensures ∙ c.in-25.is) A)
     c.update.ensures
 
 pub arm-returns-in-26 : goal.arm-returns-in-26
 arm-returns-in-26 t c =
-    resim (λ v z A. later_by (lent c.args.recs.now c.args.notes.now) v c.args.r (sym c.kind.ensures ∙ c.in-26.is) A)
+    resim (λ v z A. later_by (lent c.args.tree.now) v c.args.r (sym c.kind.ensures ∙ c.in-26.is) A)
     c.unpack.ensures
 
 pub arm-returns-in-27 : goal.arm-returns-in-27
 arm-returns-in-27 t c =
-    resim (λ v z A. later_by (lent c.args.recs.now c.args.notes.now) v c.args.r (sym c.kind.ensures ∙ c.in-27.is) A)
+    resim (λ v z A. later_by (lent c.args.tree.now) v c.args.r (sym c.kind.ensures ∙ c.in-27.is) A)
     c.multi.ensures
 
 pub arm-returns-in_default : goal.arm-returns-in_default
 arm-returns-in_default t c =
-    resim (λ v z A. to_last (lent c.args.recs.now c.args.notes.now) v c.args.r _ c.kind.ensures c.in_default.in_default-own.rest.0.0.0.0.0.0.0.0.0.0.0.0.0.1
+    resim (λ v z A. to_last (lent c.args.tree.now) v c.args.r _ c.kind.ensures c.in_default.in_default-own.rest.0.0.0.0.0.0.0.0.0.0.0.0.0.1
     c.in_default.in_default-own.rest.0.0.0.0.0.0.0.0.0.0.0.0.1 c.in_default.in_default-own.rest.0.0.0.0.0.0.0.0.0.0.0.1
     c.in_default.in_default-own.rest.0.0.0.0.0.0.0.0.0.0.1 c.in_default.in_default-own.rest.0.0.0.0.0.0.0.0.0.1 c.in_default.in_default-own.rest.0.0.0.0.0.0.0.0.1
     c.in_default.in_default-own.rest.0.0.0.0.0.0.0.1 c.in_default.in_default-own.rest.0.0.0.0.0.0.1 c.in_default.in_default-own.rest.0.0.0.0.0.1
@@ -272,20 +241,20 @@ arm-returns-in_default t c =
 
 pub assign-expr-requires : goal.assign-expr-requires
 assign-expr-requires t c = (
-  falls_to (size c.args.recs.now) c.args.r _ 12 7 t c.decreases (lit< tt) (child2 c.args.recs.now c.next-right.ensures (child1 c.args.recs.now c.first-left.ensures)),
+  falls_to (size c.args.tree.now.records.now) c.args.r _ 12 7 t c.decreases (lit< tt) (child2 c.args.tree.now.records.now c.next-right.ensures (child1 c.args.tree.now.records.now c.first-left.ensures)),
   tt,
 )
 
 pub assign-target-requires : goal.assign-target-requires
 assign-target-requires t c =
-    (falls_to (size c.args.recs.now) c.args.r _ 8 7 t c.decreases (lit< tt) (child1 c.args.recs.now c.first-left.ensures), tt)
+    (falls_to (size c.args.tree.now.records.now) c.args.r _ 8 7 t c.decreases (lit< tt) (child1 c.args.tree.now.records.now c.first-left.ensures), tt)
 
 pub assign-returns : goal.assign-returns
 unfolding does doing exec
 assign-returns t c =
     record {
       sim = λ z v o₀ A h.
-          let h1 = visited z Expr (next_of c.args.recs.now c.next-right.ensures c.first-left.ensures) c.expr.ensures h in
+          let h1 = visited z Expr (next_of c.args.tree.now.records.now c.next-right.ensures c.first-left.ensures) c.expr.ensures h in
           let h2 = visited z Target c.first-left.ensures c.target.ensures h1 in
           nulled c.args.r c.push_null.ensures h2;
     }
@@ -308,25 +277,25 @@ neither_short op.Is a b = refl
 
 pub binary-expr-requires : goal.binary-expr-requires
 binary-expr-requires t c =
-    (falls_to (size c.args.recs.now) c.args.r _ 12 7 t c.decreases (lit< tt) (child1 c.args.recs.now c.first-left.ensures), tt)
+    (falls_to (size c.args.tree.now.records.now) c.args.r _ 12 7 t c.decreases (lit< tt) (child1 c.args.tree.now.records.now c.first-left.ensures), tt)
 
 pub binary-expr-requires-in_default : goal.binary-expr-requires-in_default
 binary-expr-requires-in_default t c = (
-  falls_to (size c.args.recs.now) c.args.r _ 12 7 t c.decreases (lit< tt) (child2 c.args.recs.now c.next-right.ensures (child1 c.args.recs.now c.first-left.ensures)),
+  falls_to (size c.args.tree.now.records.now) c.args.r _ 12 7 t c.decreases (lit< tt) (child2 c.args.tree.now.records.now c.next-right.ensures (child1 c.args.tree.now.records.now c.first-left.ensures)),
   tt,
 )
 
 pub binary-returns-in-And : goal.binary-returns-in-And
 binary-returns-in-And t c =
-    resim (λ v z A. either_yes (lent c.args.recs.now c.args.notes.now) v c.args.r _ _ _ A (sym (is_and (word c.args.recs.now c.args.r 1)
+    resim (λ v z A. either_yes (lent c.args.tree.now) v c.args.r _ _ _ A (sym (is_and (word c.args.tree.now.records.now c.args.r 1)
     c.binary_operator-operator.ensures) ∙ ap (λ (o : BinOp). eqb (bin_number o) 5) c.in-And.is))
     c.and.ensures
 
 pub binary-returns-in-Or : goal.binary-returns-in-Or
 binary-returns-in-Or t c =
-    resim (λ v z A. either_no (lent c.args.recs.now c.args.notes.now) v c.args.r _ _ _ A (sym (is_and (word c.args.recs.now c.args.r 1)
+    resim (λ v z A. either_no (lent c.args.tree.now) v c.args.r _ _ _ A (sym (is_and (word c.args.tree.now.records.now c.args.r 1)
     c.binary_operator-operator.ensures) ∙ ap (λ (o : BinOp). eqb (bin_number o) 5) c.in-Or.is))
-    (resim (λ v z A. either_yes (lent c.args.recs.now c.args.notes.now) v c.args.r _ _ _ A (sym (is_or (word c.args.recs.now c.args.r 1)
+    (resim (λ v z A. either_yes (lent c.args.tree.now) v c.args.r _ _ _ A (sym (is_or (word c.args.tree.now.records.now c.args.r 1)
     c.binary_operator-operator.ensures) ∙ ap (λ (o : BinOp). eqb (bin_number o) 6) c.in-Or.is))
     c.or.ensures)
 
@@ -335,12 +304,12 @@ binary-returns-in_default t c =
     record {
       sim = λ z v o₀ A h.
           let h1 = visited z Expr c.first-left.ensures c.expr.ensures h in
-          let h2 = visited z Expr (next_of c.args.recs.now c.next-right.ensures c.first-left.ensures) c.expr-in_default.ensures h1 in
-          given (binary_run (lent c.args.recs.now c.args.notes.now) v c.args.r (sym (is_and (word c.args.recs.now c.args.r 1)
+          let h2 = visited z Expr (next_of c.args.tree.now.records.now c.next-right.ensures c.first-left.ensures) c.expr-in_default.ensures h1 in
+          given (binary_run (lent c.args.tree.now) v c.args.r (sym (is_and (word c.args.tree.now.records.now c.args.r 1)
           c.binary_operator-operator.ensures) ∙ (not_either c.binary_operator-operator.result (sym (neither_short c.binary_operator-operator.result
-          c.in_default.not-And c.in_default.not-Or))).0) (sym (is_or (word c.args.recs.now c.args.r 1) c.binary_operator-operator.ensures) ∙ (not_either
+          c.in_default.not-And c.in_default.not-Or))).0) (sym (is_or (word c.args.tree.now.records.now c.args.r 1) c.binary_operator-operator.ensures) ∙ (not_either
           c.binary_operator-operator.result (sym (neither_short c.binary_operator-operator.result c.in_default.not-And c.in_default.not-Or))).1) A) (operated (word
-          c.args.recs.now c.args.r 1)
+          c.args.tree.now.records.now c.args.r 1)
           c.binary_operator-operator.ensures c.args.r c.push_binary.ensures h2);
     }
 
@@ -349,117 +318,115 @@ unfolding does doing exec
 block-returns-then-child-eq0 t c =
     record {
       sim = λ z v o₀ A h.
-          given (block_none (lent c.args.recs.now c.args.notes.now) v c.args.r (sym c.first-child.ensures ∙ c.if-child-eq0.true) A) (nulled c.args.r c.push_null.ensures h);
+          given (block_none (lent c.args.tree.now) v c.args.r (sym c.first-child.ensures ∙ c.if-child-eq0.true) A) (nulled c.args.r c.push_null.ensures h);
     }
 
-pub block-loop-code-init : goal.block-loop-code-init
-block-loop-code-init t c =
-    blocking_start (lent c.args.recs.now c.args.notes.now) c.args.r _ _ _ (child1 c.args.recs.now c.first-child.ensures) c.if-child-eq0.false
+pub block-loop-cx-init : goal.block-loop-cx-init
+block-loop-cx-init t c =
+    blocking_start (lent c.args.tree.now) c.args.r _ (child1 c.args.tree.now.records.now c.first-child.ensures) c.if-child-eq0.false
 
 pub block-expr-requires : goal.block-expr-requires
 block-expr-requires t c =
-    (falls_to (size c.args.recs.now) c.args.r _ 12 7 t c.decreases (lit< tt) c.loop-code.invariant.link, tt)
+    (falls_to (size c.args.tree.now.records.now) c.args.r _ 12 7 t c.decreases (lit< tt) c.loop-cx.invariant.link, tt)
 
 pub block-returns-then-child-eq0-2 : goal.block-returns-then-child-eq0-2
 block-returns-then-child-eq0-2 t c =
-    resim (λ v z A. block_left (lent c.args.recs.now c.args.notes.now) v c.args.r c.first-child.ensures c.if-child-eq0.false A)
-    (blocking_last (lent c.args.recs.now c.args.notes.now) c.args.r c.loop-code.invariant (sym c.goes_on.ensures ∙ c.loop-code-test.true) c.expr.ensures
+    resim (λ v z A. block_left (lent c.args.tree.now) v c.args.r c.first-child.ensures c.if-child-eq0.false A)
+    (blocking_last (lent c.args.tree.now) c.args.r c.loop-cx.invariant (sym c.goes_on.ensures ∙ c.loop-cx-test.true) c.expr.ensures
     c.keep_error.ensures c.next-child.ensures c.if-child-eq0-2.true)
 
-pub block-loop-code-smaller : goal.block-loop-code-smaller
-block-loop-code-smaller t c =
-    falls_next c.args.recs.now _ _ c.loop-code.invariant.some c.next-child.ensures
+pub block-loop-cx-smaller : goal.block-loop-cx-smaller
+block-loop-cx-smaller t c =
+    falls_next c.args.tree.now.records.now _ _ c.loop-cx.invariant.some c.next-child.ensures
 
-pub block-loop-code-preserved : goal.block-loop-code-preserved
-block-loop-code-preserved t c =
-    blocking_again (lent c.args.recs.now c.args.notes.now) c.args.r c.loop-code.invariant (sym c.goes_on.ensures ∙ c.loop-code-test.true) c.expr.ensures
+pub block-loop-cx-preserved : goal.block-loop-cx-preserved
+block-loop-cx-preserved t c =
+    blocking_again (lent c.args.tree.now) c.args.r c.loop-cx.invariant (sym c.goes_on.ensures ∙ c.loop-cx-test.true) c.expr.ensures
     c.keep_error.ensures c.next-child.ensures c.if-child-eq0-2.false
     (record {
       sim = λ z v o₀ A h.
-          said c.args.r Pop 0 refl refl c.push_pop.ensures h;
+          said c.args.r Pop 0 refl refl c.push_op.ensures h;
     })
-    (c.push_pop.auto.code ∙ c.keep_error.auto.code ∙ c.expr.auto.code) c.expr.auto.consts
 
 pub block-returns : goal.block-returns
 block-returns t c =
-    resim (λ v z A. block_left (lent c.args.recs.now c.args.notes.now) v c.args.r c.first-child.ensures c.if-child-eq0.false A)
-    (blocking_still (lent c.args.recs.now c.args.notes.now) c.args.r c.loop-code.invariant (sym c.goes_on.ensures ∙ c.loop-code-test.false))
+    resim (λ v z A. block_left (lent c.args.tree.now) v c.args.r c.first-child.ensures c.if-child-eq0.false A)
+    (blocking_still (lent c.args.tree.now) c.args.r c.loop-cx.invariant (sym c.goes_on.ensures ∙ c.loop-cx-test.false))
 
 pub bodies-loop-at-init : goal.bodies-loop-at-init
 bodies-loop-at-init t c =
-    bodying_start (lent c.args.recs.now c.args.notes.now) c.args.first _ _ _ _ _
+    bodying_start (lent c.args.tree.now) c.args.first _ _ _
 
 pub bodies-expr-requires : goal.bodies-expr-requires
 bodies-expr-requires t c = (
-  falls_along (size c.args.recs.now) c.args.first _ 12 13 t c.decreases (lit< tt) c.loop-at.invariant.along c.loop-at-test.true (λ e. c.loop-at-test.true
+  falls_along (size c.args.tree.now.records.now) c.args.first _ 12 13 t c.decreases (lit< tt) c.loop-at.invariant.along c.loop-at-test.true (λ e. c.loop-at-test.true
       (c.loop-at.invariant.none e)),
   tt,
 )
 
 pub bodies-loop-at-smaller : goal.bodies-loop-at-smaller
 bodies-loop-at-smaller t c =
-    falls_next c.args.recs.now _ _ c.loop-at-test.true c.next-at.ensures
+    falls_next c.args.tree.now.records.now _ _ c.loop-at-test.true c.next-at.ensures
 
 pub bodies-loop-at-preserved : goal.bodies-loop-at-preserved
 bodies-loop-at-preserved t c =
-    bodying_again (lent c.args.recs.now c.args.notes.now) c.args.first _ _ c.loop-at.invariant c.loop-at-test.true c.next-at.ensures
+    bodying_again (lent c.args.tree.now) c.args.first _ _ c.loop-at.invariant c.loop-at-test.true c.next-at.ensures
     c.next_label-label.ensures
     (λ r i j q d. record {
       sim = λ z v o₀ A h.
           let h1 = placed r i refl q c.push_label.ensures h in
           let h2 = visited z Expr refl c.expr.ensures h1 in
-          jumped r Jump j refl d c.push_jump.ensures h2;
+          jumped r Jump j refl d c.push_op.ensures h2;
     })
-    (c.push_jump.auto.code ∙ c.expr.auto.code ∙ c.push_label.auto.code) c.expr.auto.consts
 
 pub bodies-returns : goal.bodies-returns
 bodies-returns t c =
     record {
-      bodies = λ r i j p q. bodying_end (lent c.args.recs.now c.args.notes.now) c.args.first _ _ c.loop-at.invariant c.loop-at-test.false
+      bodies = λ r i j p q. bodying_end (lent c.args.tree.now) c.args.first _ _ c.loop-at.invariant c.loop-at-test.false
           r i j p q;
     }
 
 pub body-expr-requires : goal.body-expr-requires
 body-expr-requires t c =
-    (falls_to (size c.args.recs.now) c.args.r _ 12 4 t c.decreases (lit< tt) (child1 c.args.recs.now c.first-params.ensures), tt)
+    (falls_to (size c.args.tree.now.records.now) c.args.r _ 12 4 t c.decreases (lit< tt) (child1 c.args.tree.now.records.now c.first-params.ensures), tt)
 
 pub body-expr-requires-2 : goal.body-expr-requires-2
 body-expr-requires-2 t c = (
-  falls_to (size c.args.recs.now) c.args.r _ 12 4 t c.decreases (lit< tt) (child2 c.args.recs.now c.next-block.ensures (child1 c.args.recs.now c.first-params.ensures)),
+  falls_to (size c.args.tree.now.records.now) c.args.r _ 12 4 t c.decreases (lit< tt) (child2 c.args.tree.now.records.now c.next-block.ensures (child1 c.args.tree.now.records.now c.first-params.ensures)),
   tt,
 )
 
 pub body-returns-then-detail-eq-DO : goal.body-returns-then-detail-eq-DO
 unfolding does doing exec
 body-returns-then-detail-eq-DO t c =
-    resim (λ v z A. either_yes (lent c.args.recs.now c.args.notes.now) v c.args.r _ _ _ A (eq-eqb _ 2 (sym c.detail.ensures ∙ c.if-detail-eq-DO.true)))
+    resim (λ v z A. either_yes (lent c.args.tree.now) v c.args.r _ _ _ A (eq-eqb _ 2 (sym c.detail.ensures ∙ c.if-detail-eq-DO.true)))
     (record {
       sim = λ z v o₀ A h.
           let h1 = visited z Expr c.first-params.ensures c.expr.ensures h in
-          let h2 = visited z Expr (next_of c.args.recs.now c.next-block.ensures c.first-params.ensures) c.expr-2.ensures h1 in
-          let h3 = said c.args.r Pop 0 refl refl c.push_pop.ensures h2 in
-          let h4 = said c.args.r LoadLocals 0 refl refl c.push_load_locals.ensures h3 in
-          said c.args.r Return 0 refl refl c.push_return.ensures h4;
+          let h2 = visited z Expr (next_of c.args.tree.now.records.now c.next-block.ensures c.first-params.ensures) c.expr-2.ensures h1 in
+          let h3 = said c.args.r Pop 0 refl refl c.push_op.ensures h2 in
+          let h4 = said c.args.r LoadLocals 0 refl refl c.push_op-then-detail-eq-DO.ensures h3 in
+          said c.args.r Return 0 refl refl c.push_op-then-detail-eq-DO-2.ensures h4;
     })
 
 pub body-returns : goal.body-returns
 unfolding does doing exec
 body-returns t c =
-    resim (λ v z A. either_no (lent c.args.recs.now c.args.notes.now) v c.args.r _ _ _ A (ne_eqb _ 2 (λ e. c.if-detail-eq-DO.false (c.detail.ensures ∙ e))))
+    resim (λ v z A. either_no (lent c.args.tree.now) v c.args.r _ _ _ A (ne_eqb _ 2 (λ e. c.if-detail-eq-DO.false (c.detail.ensures ∙ e))))
     (record {
       sim = λ z v o₀ A h.
           let h1 = visited z Expr c.first-params.ensures c.expr.ensures h in
-          let h2 = visited z Expr (next_of c.args.recs.now c.next-block.ensures c.first-params.ensures) c.expr-2.ensures h1 in
-          said c.args.r Return 0 refl refl c.push_return-2.ensures h2;
+          let h2 = visited z Expr (next_of c.args.tree.now.records.now c.next-block.ensures c.first-params.ensures) c.expr-2.ensures h1 in
+          said c.args.r Return 0 refl refl c.push_op-2.ensures h2;
     })
 
 pub call-called-requires : goal.call-called-requires
 call-called-requires t c =
-    (falls_to (size c.args.recs.now) c.args.r _ 13 7 t c.decreases (lit< tt) (child1 c.args.recs.now c.first-callee.ensures), tt)
+    (falls_to (size c.args.tree.now.records.now) c.args.r _ 13 7 t c.decreases (lit< tt) (child1 c.args.tree.now.records.now c.first-callee.ensures), tt)
 
 pub call-all-requires : goal.call-all-requires
 call-all-requires t c = (
-  falls_to (size c.args.recs.now) c.args.r _ 13 7 t c.decreases (lit< tt) (child2 c.args.recs.now c.next-arguments.ensures (child1 c.args.recs.now c.first-callee.ensures)),
+  falls_to (size c.args.tree.now.records.now) c.args.r _ 13 7 t c.decreases (lit< tt) (child2 c.args.tree.now.records.now c.next-arguments.ensures (child1 c.args.tree.now.records.now c.first-callee.ensures)),
   tt,
 )
 
@@ -468,20 +435,20 @@ call-returns-then-handlers-eq0 t c =
     record {
       sim = λ z v o₀ A h.
           let h1 = visited z Callee c.first-callee.ensures c.called.ensures h in
-          let h2 = through_at z (c.arguments_len-n.ensures ∙ ap (λ (x : ℕ). arguments (own_tree (forest c.args.recs.now x))) (next_of c.args.recs.now
-          c.next-arguments.ensures c.first-callee.ensures)) (next_of c.args.recs.now c.next-arguments.ensures c.first-callee.ensures) c.all.ensures h1 in
-          given (call_plain (lent c.args.recs.now c.args.notes.now) v c.args.r (call_of c.args.tail) (sym (c.nth-handlers.ensures ∙ ap₂
-          (nth c.args.recs.now) (c.arguments_len-n.ensures ∙ ap (λ (x : ℕ). arguments (own_tree (forest c.args.recs.now x))) (next_of c.args.recs.now
-          c.next-arguments.ensures c.first-callee.ensures)) (next_of c.args.recs.now c.next-arguments.ensures c.first-callee.ensures)) ∙ c.if-handlers-eq0.true) A)
-          (said c.args.r (call_of c.args.tail) _ refl (c.argument_count-argument_count.ensures ∙ ap₂ (λ (x y : ℕ). cap (argument_count c.args.recs.now x y))
-          c.first-callee.ensures (c.arguments_len-n.ensures ∙ ap (λ (x : ℕ). arguments (own_tree (forest c.args.recs.now
-          x))) (next_of c.args.recs.now c.next-arguments.ensures c.first-callee.ensures))) c.push_calling.ensures h2);
+          let h2 = through_at z (c.arguments_len-n.ensures ∙ ap (λ (x : ℕ). arguments (own_tree (forest c.args.tree.now.records.now x))) (next_of c.args.tree.now.records.now
+          c.next-arguments.ensures c.first-callee.ensures)) (next_of c.args.tree.now.records.now c.next-arguments.ensures c.first-callee.ensures) c.all.ensures h1 in
+          given (call_plain (lent c.args.tree.now) v c.args.r (call_of c.args.tail) (sym (c.nth-handlers.ensures ∙ ap₂
+          (nth c.args.tree.now.records.now) (c.arguments_len-n.ensures ∙ ap (λ (x : ℕ). arguments (own_tree (forest c.args.tree.now.records.now x))) (next_of c.args.tree.now.records.now
+          c.next-arguments.ensures c.first-callee.ensures)) (next_of c.args.tree.now.records.now c.next-arguments.ensures c.first-callee.ensures)) ∙ c.if-handlers-eq0.true) A)
+          (said c.args.r (call_of c.args.tail) _ refl (c.argument_count-argument_count.ensures ∙ ap₂ (λ (x y : ℕ). cap (argument_count c.args.tree.now.records.now x y))
+          c.first-callee.ensures (c.arguments_len-n.ensures ∙ ap (λ (x : ℕ). arguments (own_tree (forest c.args.tree.now.records.now
+          x))) (next_of c.args.tree.now.records.now c.next-arguments.ensures c.first-callee.ensures))) c.push_calling.ensures h2);
     }
 
 pub call-bodies-requires : goal.call-bodies-requires
 call-bodies-requires t c = (
-  falls_to (size c.args.recs.now) c.args.r _ 13 7 t c.decreases (lit< tt) (linked_past c.args.recs.now c.arguments_len-n.result
-      (child2 c.args.recs.now c.next-arguments.ensures (child1 c.args.recs.now c.first-callee.ensures)) c.nth-handlers.ensures),
+  falls_to (size c.args.tree.now.records.now) c.args.r _ 13 7 t c.decreases (lit< tt) (linked_past c.args.tree.now.records.now c.arguments_len-n.result
+      (child2 c.args.tree.now.records.now c.next-arguments.ensures (child1 c.args.tree.now.records.now c.first-callee.ensures)) c.nth-handlers.ensures),
   tt,
 )
 
@@ -490,95 +457,95 @@ call-returns t c =
     record {
       sim = λ z v o₀ A h.
           let h1 = visited z Callee c.first-callee.ensures c.called.ensures h in
-          let h2 = through_at z (c.arguments_len-n.ensures ∙ ap (λ (x : ℕ). arguments (own_tree (forest c.args.recs.now x))) (next_of c.args.recs.now
-          c.next-arguments.ensures c.first-callee.ensures)) (next_of c.args.recs.now c.next-arguments.ensures c.first-callee.ensures) c.all.ensures h1 in
+          let h2 = through_at z (c.arguments_len-n.ensures ∙ ap (λ (x : ℕ). arguments (own_tree (forest c.args.tree.now.records.now x))) (next_of c.args.tree.now.records.now
+          c.next-arguments.ensures c.first-callee.ensures)) (next_of c.args.tree.now.records.now c.next-arguments.ensures c.first-callee.ensures) c.all.ensures h1 in
           let l = label c.get_label-end_label.ensures h2 in
           let h3 = labelled c.get_label-end_label.ensures h2 in
-          let k = c.registers-handler_label.ensures.label ∙ h3.reads.labels in
-          let h4 = (c.registers-handler_label.ensures.moves _ c.args.r).moves v o₀ _ h3 in
-          let h5 = said c.args.r Call _ refl (c.argument_count-argument_count.ensures ∙ ap₂ (λ (x y : ℕ). cap (argument_count c.args.recs.now x y))
-          c.first-callee.ensures (c.arguments_len-n.ensures ∙ ap (λ (x : ℕ). arguments (own_tree (forest c.args.recs.now x))) (next_of c.args.recs.now
-          c.next-arguments.ensures c.first-callee.ensures))) c.push_call.ensures h4 in
-          let h6 = jumped c.args.r Jump _ refl l c.push_jump.ensures h5 in
+          let k = c.registers-handler_label.ensures.label ∙ h3.labels in
+          let h4 = (c.registers-handler_label.ensures.moves c.args.r).moves v o₀ _ h3 in
+          let h5 = said c.args.r Call _ refl (c.argument_count-argument_count.ensures ∙ ap₂ (λ (x y : ℕ). cap (argument_count c.args.tree.now.records.now x y))
+          c.first-callee.ensures (c.arguments_len-n.ensures ∙ ap (λ (x : ℕ). arguments (own_tree (forest c.args.tree.now.records.now x))) (next_of c.args.tree.now.records.now
+          c.next-arguments.ensures c.first-callee.ensures))) c.push_op.ensures h4 in
+          let h6 = jumped c.args.r Jump _ refl l c.push_op-2.ensures h5 in
           let h7 = (c.bodies.ensures.bodies c.args.r _ _ k l).sim z v o₀ _ h6 in
-          given (call_handled (lent c.args.recs.now c.args.notes.now) v c.args.r (call_of c.args.tail) (c.nth-handlers.ensures ∙ ap₂ (nth
-          c.args.recs.now) (c.arguments_len-n.ensures ∙ ap (λ (x : ℕ). arguments (own_tree (forest c.args.recs.now x))) (next_of c.args.recs.now
-          c.next-arguments.ensures c.first-callee.ensures)) (next_of c.args.recs.now c.next-arguments.ensures c.first-callee.ensures)) c.if-handlers-eq0.false A)
+          given (call_handled (lent c.args.tree.now) v c.args.r (call_of c.args.tail) (c.nth-handlers.ensures ∙ ap₂ (nth
+          c.args.tree.now.records.now) (c.arguments_len-n.ensures ∙ ap (λ (x : ℕ). arguments (own_tree (forest c.args.tree.now.records.now x))) (next_of c.args.tree.now.records.now
+          c.next-arguments.ensures c.first-callee.ensures)) (next_of c.args.tree.now.records.now c.next-arguments.ensures c.first-callee.ensures)) c.if-handlers-eq0.false A)
           (placed c.args.r _ refl l c.push_label.ensures h7);
     }
 
 pub called-returns-then-callee-eq0 : goal.called-returns-then-callee-eq0
 called-returns-then-callee-eq0 t c =
-    resim (λ v z A. absent (lent c.args.recs.now c.args.notes.now) v Callee c.if-callee-eq0.true A) stay
+    resim (λ v z A. absent (lent c.args.tree.now) v Callee c.if-callee-eq0.true A) stay
 
 pub called-expr-requires : goal.called-expr-requires
 called-expr-requires t c =
-    (falls_some (size c.args.recs.now) c.args.callee 12 13 t c.decreases c.if-callee-eq0.false (lit< tt), tt)
+    (falls_some (size c.args.tree.now.records.now) c.args.callee 12 13 t c.decreases c.if-callee-eq0.false (lit< tt), tt)
 
 pub called-returns-then-not-is_method : goal.called-returns-then-not-is_method
 called-returns-then-not-is_method t c =
-    resim (λ v z A. callee_plain (lent c.args.recs.now c.args.notes.now) v c.args.callee c.if-callee-eq0.false (sym c.is_method.ensures ∙
+    resim (λ v z A. callee_plain (lent c.args.tree.now) v c.args.callee c.if-callee-eq0.false (sym c.is_method.ensures ∙
     not-true _ (ap not c.if-not-is_method.true)) A) c.expr.ensures
 
 pub called-expr-requires-2 : goal.called-expr-requires-2
 called-expr-requires-2 t c = (
-  falls_below (size c.args.recs.now) c.args.callee _ 12 12 t c.decreases c.if-callee-eq0.false (lit< tt) (child1 c.args.recs.now c.first-table.ensures),
+  falls_below (size c.args.tree.now.records.now) c.args.callee _ 12 12 t c.decreases c.if-callee-eq0.false (lit< tt) (child1 c.args.tree.now.records.now c.first-table.ensures),
   tt,
 )
 
 pub called-prop-requires : goal.called-prop-requires
 called-prop-requires t c =
-    (falls_rank (size c.args.recs.now) c.args.callee 6 13 t c.decreases c.if-callee-eq0.false (lit< tt), tt)
+    (falls_rank (size c.args.tree.now.records.now) c.args.callee 6 13 t c.decreases c.if-callee-eq0.false (lit< tt), tt)
 
 pub called-returns-then-is_unlabelled : goal.called-returns-then-is_unlabelled
 called-returns-then-is_unlabelled t c =
-    resim (λ v z A. callee_method (lent c.args.recs.now c.args.notes.now) v c.args.callee c.if-callee-eq0.false (sym c.is_method.ensures
+    resim (λ v z A. callee_method (lent c.args.tree.now) v c.args.callee c.if-callee-eq0.false (sym c.is_method.ensures
     ∙ not-false _ (ap not c.if-not-is_method.false)) A)
     (record {
       sim = λ z v o₀ A h.
           let h1 = visited z Expr c.first-table.ensures c.expr-2.ensures h in
-          let t = label_test (word c.args.recs.now c.args.callee 1) h1 c.is_unlabelled.ensures in
-          let k = said c.args.callee Copy 1 refl refl c.push_copy.ensures h1 in
-          let p = propped z c.args.callee (word c.args.recs.now c.args.callee 1 % 8) c.property_of-property.ensures c.prop.ensures k in
-          let g = got c.args.callee (word c.args.recs.now c.args.callee 1 % 8) c.property_of-property.ensures c.push_get.ensures p in
-          given (method_bare (lent c.args.recs.now c.args.notes.now) v c.args.callee (t ∙ c.if-is_unlabelled.true) A) (said c.args.callee
-          Swap 2 refl refl c.push_swap.ensures g);
+          let t = label_test (word c.args.tree.now.records.now c.args.callee 1) h1 c.is_unlabelled.ensures in
+          let k = said c.args.callee Copy 1 refl refl c.push_op.ensures h1 in
+          let p = propped z c.args.callee (word c.args.tree.now.records.now c.args.callee 1 % 8) c.property_of-property.ensures c.prop.ensures k in
+          let g = got c.args.callee (word c.args.tree.now.records.now c.args.callee 1 % 8) c.property_of-property.ensures c.push_get.ensures p in
+          given (method_bare (lent c.args.tree.now) v c.args.callee (t ∙ c.if-is_unlabelled.true) A) (said c.args.callee
+          Swap 2 refl refl c.push_op-then-is_unlabelled.ensures g);
     })
 
 pub called-prop-requires-2 : goal.called-prop-requires-2
 called-prop-requires-2 t c =
-    (falls_rank (size c.args.recs.now) c.args.callee 6 13 t c.decreases c.if-callee-eq0.false (lit< tt), tt)
+    (falls_rank (size c.args.tree.now.records.now) c.args.callee 6 13 t c.decreases c.if-callee-eq0.false (lit< tt), tt)
 
 pub called-returns : goal.called-returns
 called-returns t c =
-    resim (λ v z A. callee_method (lent c.args.recs.now c.args.notes.now) v c.args.callee c.if-callee-eq0.false (sym c.is_method.ensures
+    resim (λ v z A. callee_method (lent c.args.tree.now) v c.args.callee c.if-callee-eq0.false (sym c.is_method.ensures
     ∙ not-false _ (ap not c.if-not-is_method.false)) A)
     (record {
       sim = λ z v o₀ A h.
           let h1 = visited z Expr c.first-table.ensures c.expr-2.ensures h in
-          let t = label_test (word c.args.recs.now c.args.callee 1) h1 c.is_unlabelled.ensures in
+          let t = label_test (word c.args.tree.now.records.now c.args.callee 1) h1 c.is_unlabelled.ensures in
           let l = label c.get_label-safe_label.ensures h1 in
           let h2 = labelled c.get_label-safe_label.ensures h1 in
-          let h3 = (c.push_safe_jump.ensures.moves _ _ l).moves v o₀ _ h2 in
-          let k = said c.args.callee Copy 1 refl refl c.push_copy-2.ensures h3 in
-          let p = propped z c.args.callee (word c.args.recs.now c.args.callee 1 % 8) c.property_of-property.ensures c.prop-2.ensures k in
-          let g = got c.args.callee (word c.args.recs.now c.args.callee 1 % 8) c.property_of-property.ensures c.push_get-2.ensures p in
-          let q = said c.args.callee Swap 2 refl refl c.push_swap-2.ensures g in
-          given (method_run (lent c.args.recs.now c.args.notes.now) v c.args.callee (t ∙ c.if-is_unlabelled.false) A) (placed c.args.callee _
+          let h3 = (c.push_safe_jump.ensures.moves _ l).moves v o₀ _ h2 in
+          let k = said c.args.callee Copy 1 refl refl c.push_op-2.ensures h3 in
+          let p = propped z c.args.callee (word c.args.tree.now.records.now c.args.callee 1 % 8) c.property_of-property.ensures c.prop-2.ensures k in
+          let g = got c.args.callee (word c.args.tree.now.records.now c.args.callee 1 % 8) c.property_of-property.ensures c.push_get-2.ensures p in
+          let q = said c.args.callee Swap 2 refl refl c.push_op-3.ensures g in
+          given (method_run (lent c.args.tree.now) v c.args.callee (t ∙ c.if-is_unlabelled.false) A) (placed c.args.callee _
           refl l c.push_label.ensures q);
     })
 
 pub cases-returns-then-value-eq0 : goal.cases-returns-then-value-eq0
 cases-returns-then-value-eq0 t c =
-    resim (λ v z A. match_none (lent c.args.recs.now c.args.notes.now) v c.args.r (sym c.first-value.ensures ∙ c.if-value-eq0.true) A) stay
+    resim (λ v z A. match_none (lent c.args.tree.now) v c.args.r (sym c.first-value.ensures ∙ c.if-value-eq0.true) A) stay
 
 pub cases-expr-requires : goal.cases-expr-requires
 cases-expr-requires t c =
-    (falls_to (size c.args.recs.now) c.args.r _ 12 7 t c.decreases (lit< tt) (child1 c.args.recs.now c.first-value.ensures), tt)
+    (falls_to (size c.args.tree.now.records.now) c.args.r _ 12 7 t c.decreases (lit< tt) (child1 c.args.tree.now.records.now c.first-value.ensures), tt)
 
 pub cases-bodies-requires : goal.cases-bodies-requires
 cases-bodies-requires t c = (
-  falls_to (size c.args.recs.now) c.args.r _ 13 7 t c.decreases (lit< tt) (child2 c.args.recs.now c.next-cases.ensures (child1 c.args.recs.now c.first-value.ensures)),
+  falls_to (size c.args.tree.now.records.now) c.args.r _ 13 7 t c.decreases (lit< tt) (child2 c.args.tree.now.records.now c.next-cases.ensures (child1 c.args.tree.now.records.now c.first-value.ensures)),
   tt,
 )
 
@@ -593,25 +560,25 @@ cases-returns t c =
           let h3 = labelled c.get_labels-block_label.ensures h2 in
           let h4 = (c.patterns.ensures.tests c.args.r _ k).sim z v o₀ _ h3 in
           let h5 = nulled c.args.r c.push_null.ensures h4 in
-          let h6 = jumped c.args.r Jump _ refl l c.push_jump.ensures h5 in
+          let h6 = jumped c.args.r Jump _ refl l c.push_op.ensures h5 in
           let h7 = (c.bodies.ensures.bodies c.args.r _ _ k l).sim z v o₀ _ h6 in
           let h8 = placed c.args.r _ refl l c.push_label.ensures h7 in
-          let h9 = said c.args.r Swap 2 refl refl c.push_swap.ensures h8 in
-          given (match_run (lent c.args.recs.now c.args.notes.now) v c.args.r (next_of c.args.recs.now c.next-cases.ensures c.first-value.ensures) c.width.ensures (λ
-          e. c.if-value-eq0.false (c.first-value.ensures ∙ e)) A) (said c.args.r Pop 0 refl refl c.push_pop.ensures h9);
+          let h9 = said c.args.r Swap 2 refl refl c.push_op-2.ensures h8 in
+          given (match_run (lent c.args.tree.now) v c.args.r (next_of c.args.tree.now.records.now c.next-cases.ensures c.first-value.ensures) c.width.ensures (λ
+          e. c.if-value-eq0.false (c.first-value.ensures ∙ e)) A) (said c.args.r Pop 0 refl refl c.push_op-3.ensures h9);
     }
 
 pub catch-expr-requires : goal.catch-expr-requires
 catch-expr-requires t c = (
-  falls_to (size c.args.recs.now) c.args.handler _ 12 7 t c.decreases (lit< tt) (child2 c.args.recs.now c.next-params.ensures (child1
-      c.args.recs.now c.first-effect.ensures)),
+  falls_to (size c.args.tree.now.records.now) c.args.handler _ 12 7 t c.decreases (lit< tt) (child2 c.args.tree.now.records.now c.next-params.ensures (child1
+      c.args.tree.now.records.now c.first-effect.ensures)),
   tt,
 )
 
 pub catch-expr-requires-2 : goal.catch-expr-requires-2
 catch-expr-requires-2 t c = (
-  falls_to (size c.args.recs.now) c.args.handler _ 12 7 t c.decreases (lit< tt) (child2 c.args.recs.now c.next-body.ensures
-      (child2 c.args.recs.now c.next-params.ensures (child1 c.args.recs.now c.first-effect.ensures))),
+  falls_to (size c.args.tree.now.records.now) c.args.handler _ 12 7 t c.decreases (lit< tt) (child2 c.args.tree.now.records.now c.next-body.ensures
+      (child2 c.args.tree.now.records.now c.next-params.ensures (child1 c.args.tree.now.records.now c.first-effect.ensures))),
   tt,
 )
 
@@ -621,36 +588,36 @@ catch-returns t c =
     record {
       catches = λ q. record {
         sim = λ z v o₀ A h.
-            let h1 = effect_loaded (lent c.args.recs.now c.args.notes.now) c.args.handler z q c.capped.ensures c.push_load_const.ensures h in
-            let h2 = said c.args.handler CheckEffect _ refl (c.params_len.ensures ∙ ap (λ (y : ℕ). cap (width (below (own_tree (forest c.args.recs.now y)) 0)))
-            (next_of c.args.recs.now c.next-params.ensures c.first-effect.ensures) ∙ ap (λ (k : Nodes). cap (width k)) (sym (below_nodes
-            c.args.recs.now (first c.args.recs.now c.args.handler) 0))) c.push_check_effect.ensures h1 in
-            let h3 = visited z Expr (next_of c.args.recs.now c.next-params.ensures c.first-effect.ensures) c.expr.ensures h2 in
-            visited z Expr (next_of c.args.recs.now c.next-body.ensures (next_of c.args.recs.now c.next-params.ensures c.first-effect.ensures)) c.expr-2.ensures h3;
+            let h1 = effect_loaded (lent c.args.tree.now) c.args.handler z q c.capped.ensures c.push_load_const.ensures h in
+            let h2 = said c.args.handler CheckEffect _ refl (c.params_len.ensures ∙ ap (λ (y : ℕ). cap (width (below (own_tree (forest c.args.tree.now.records.now y)) 0)))
+            (next_of c.args.tree.now.records.now c.next-params.ensures c.first-effect.ensures) ∙ ap (λ (k : Nodes). cap (width k)) (sym (below_nodes
+            c.args.tree.now.records.now (first c.args.tree.now.records.now c.args.handler) 0))) c.push_op.ensures h1 in
+            let h3 = visited z Expr (next_of c.args.tree.now.records.now c.next-params.ensures c.first-effect.ensures) c.expr.ensures h2 in
+            visited z Expr (next_of c.args.tree.now.records.now c.next-body.ensures (next_of c.args.tree.now.records.now c.next-params.ensures c.first-effect.ensures)) c.expr-2.ensures h3;
       };
     }
 
 pub cond-expr-requires : goal.cond-expr-requires
 cond-expr-requires t c =
-    (falls_to (size c.args.recs.now) c.args.r _ 12 7 t c.decreases (lit< tt) (child1 c.args.recs.now c.first-test.ensures), tt)
+    (falls_to (size c.args.tree.now.records.now) c.args.r _ 12 7 t c.decreases (lit< tt) (child1 c.args.tree.now.records.now c.first-test.ensures), tt)
 
 pub cond-expr-requires-2 : goal.cond-expr-requires-2
 cond-expr-requires-2 t c = (
-  falls_to (size c.args.recs.now) c.args.r _ 12 7 t c.decreases (lit< tt) (child2 c.args.recs.now c.next-consequent.ensures (child1 c.args.recs.now c.first-test.ensures)),
+  falls_to (size c.args.tree.now.records.now) c.args.r _ 12 7 t c.decreases (lit< tt) (child2 c.args.tree.now.records.now c.next-consequent.ensures (child1 c.args.tree.now.records.now c.first-test.ensures)),
   tt,
 )
 
 pub cond-expr-requires-then-detail-eq-WITH_ELSE : goal.cond-expr-requires-then-detail-eq-WITH_ELSE
 cond-expr-requires-then-detail-eq-WITH_ELSE t c = (
-  falls_to (size c.args.recs.now) c.args.r _ 12 7 t c.decreases (lit< tt) (child2 c.args.recs.now c.next-alternate.ensures (child2 c.args.recs.now
-      c.next-consequent.ensures (child1 c.args.recs.now c.first-test.ensures))),
+  falls_to (size c.args.tree.now.records.now) c.args.r _ 12 7 t c.decreases (lit< tt) (child2 c.args.tree.now.records.now c.next-alternate.ensures (child2 c.args.tree.now.records.now
+      c.next-consequent.ensures (child1 c.args.tree.now.records.now c.first-test.ensures))),
   tt,
 )
 
 pub cond-returns-then-detail-eq-WITH_ELSE : goal.cond-returns-then-detail-eq-WITH_ELSE
 unfolding does doing exec
 cond-returns-then-detail-eq-WITH_ELSE t c =
-    resim (λ v z A. either_yes (lent c.args.recs.now c.args.notes.now) v c.args.r _ _ _ A (eq-eqb _ 1 (sym c.detail.ensures ∙ c.if-detail-eq-WITH_ELSE.true)))
+    resim (λ v z A. either_yes (lent c.args.tree.now) v c.args.r _ _ _ A (eq-eqb _ 1 (sym c.detail.ensures ∙ c.if-detail-eq-WITH_ELSE.true)))
     (record {
       sim = λ z v o₀ A h.
           let l = label c.get_label-false_label.ensures h in
@@ -658,11 +625,11 @@ cond-returns-then-detail-eq-WITH_ELSE t c =
           let m = label c.get_label-end_label.ensures h1 in
           let h2 = labelled c.get_label-end_label.ensures h1 in
           let h3 = visited z Expr c.first-test.ensures c.expr.ensures h2 in
-          let h4 = jumped c.args.r PopJumpIfFalse _ refl l c.push_pop_jump_if_false.ensures h3 in
-          let h5 = visited z Expr (next_of c.args.recs.now c.next-consequent.ensures c.first-test.ensures) c.expr-2.ensures h4 in
-          let h6 = jumped c.args.r Jump _ refl m c.push_jump.ensures h5 in
+          let h4 = jumped c.args.r PopJumpIfFalse _ refl l c.push_op.ensures h3 in
+          let h5 = visited z Expr (next_of c.args.tree.now.records.now c.next-consequent.ensures c.first-test.ensures) c.expr-2.ensures h4 in
+          let h6 = jumped c.args.r Jump _ refl m c.push_op-2.ensures h5 in
           let h7 = placed c.args.r _ refl l c.push_label.ensures h6 in
-          let h8 = visited z Expr (next_of c.args.recs.now c.next-alternate.ensures (next_of c.args.recs.now c.next-consequent.ensures c.first-test.ensures))
+          let h8 = visited z Expr (next_of c.args.tree.now.records.now c.next-alternate.ensures (next_of c.args.tree.now.records.now c.next-consequent.ensures c.first-test.ensures))
           c.expr-then-detail-eq-WITH_ELSE.ensures h7 in
           placed c.args.r _ refl m c.push_label-then-detail-eq-WITH_ELSE.ensures h8;
     })
@@ -670,7 +637,7 @@ cond-returns-then-detail-eq-WITH_ELSE t c =
 pub cond-returns : goal.cond-returns
 unfolding does doing exec
 cond-returns t c =
-    resim (λ v z A. either_no (lent c.args.recs.now c.args.notes.now) v c.args.r _ _ _ A (ne_eqb _ 1 (λ e. c.if-detail-eq-WITH_ELSE.false (c.detail.ensures ∙ e))))
+    resim (λ v z A. either_no (lent c.args.tree.now) v c.args.r _ _ _ A (ne_eqb _ 1 (λ e. c.if-detail-eq-WITH_ELSE.false (c.detail.ensures ∙ e))))
     (record {
       sim = λ z v o₀ A h.
           let l = label c.get_label-false_label.ensures h in
@@ -678,9 +645,9 @@ cond-returns t c =
           let m = label c.get_label-end_label.ensures h1 in
           let h2 = labelled c.get_label-end_label.ensures h1 in
           let h3 = visited z Expr c.first-test.ensures c.expr.ensures h2 in
-          let h4 = jumped c.args.r PopJumpIfFalse _ refl l c.push_pop_jump_if_false.ensures h3 in
-          let h5 = visited z Expr (next_of c.args.recs.now c.next-consequent.ensures c.first-test.ensures) c.expr-2.ensures h4 in
-          let h6 = jumped c.args.r Jump _ refl m c.push_jump.ensures h5 in
+          let h4 = jumped c.args.r PopJumpIfFalse _ refl l c.push_op.ensures h3 in
+          let h5 = visited z Expr (next_of c.args.tree.now.records.now c.next-consequent.ensures c.first-test.ensures) c.expr-2.ensures h4 in
+          let h6 = jumped c.args.r Jump _ refl m c.push_op-2.ensures h5 in
           let h7 = placed c.args.r _ refl l c.push_label.ensures h6 in
           let h8 = nulled c.args.r c.push_null.ensures h7 in
           placed c.args.r _ refl m c.push_label-2.ensures h8;
@@ -688,14 +655,14 @@ cond-returns t c =
 
 pub each-expr-requires : goal.each-expr-requires
 each-expr-requires t c = (
-  falls_to (size c.args.recs.now) c.args.r _ 12 7 t c.decreases (lit< tt) (linked_nth c.args.recs.now c.args.r c.p-n.result c.first-left.ensures c.nth-right.ensures),
+  falls_to (size c.args.tree.now.records.now) c.args.r _ 12 7 t c.decreases (lit< tt) (linked_nth c.args.tree.now.records.now c.args.r c.p-n.result c.first-left.ensures c.nth-right.ensures),
   tt,
 )
 
 pub each-expr-requires-2 : goal.each-expr-requires-2
 each-expr-requires-2 t c = (
-  falls_to (size c.args.recs.now) c.args.r _ 12 7 t c.decreases (lit< tt) (child2 c.args.recs.now c.next-body.ensures (linked_nth
-      c.args.recs.now c.args.r c.p-n.result c.first-left.ensures c.nth-right.ensures)),
+  falls_to (size c.args.tree.now.records.now) c.args.r _ 12 7 t c.decreases (lit< tt) (child2 c.args.tree.now.records.now c.next-body.ensures (linked_nth
+      c.args.tree.now.records.now c.args.r c.p-n.result c.first-left.ensures c.nth-right.ensures)),
   tt,
 )
 
@@ -710,95 +677,95 @@ each-returns t c =
           let k = label c.get_label-body_label.ensures h2 in
           let h3 = labelled c.get_label-body_label.ensures h2 in
           let h4 = given (behind_body _ c.args.r A) (begun c.args.r _ _ _ l h3 c.begin_loop.ensures) in
-          let h5 = visited z Expr (c.nth-right.ensures ∙ ap₂ (nth c.args.recs.now) c.p-n.ensures c.first-left.ensures) c.expr.ensures h4 in
+          let h5 = visited z Expr (c.nth-right.ensures ∙ ap₂ (nth c.args.tree.now.records.now) c.p-n.ensures c.first-left.ensures) c.expr.ensures h4 in
           let h6 = (c.iterate.ensures.moves c.args.r _ _ l k).moves v o₀ _ h5 in
-          let h7 = jumped c.args.r Jump _ refl m c.push_jump.ensures h6 in
+          let h7 = jumped c.args.r Jump _ refl m c.push_op.ensures h6 in
           let h8 = placed c.args.r _ refl k c.push_label.ensures h7 in
-          let h9 = said c.args.r MarkAddStackSize 3 refl refl c.push_mark_add_stack_size.ensures h8 in
-          let i1 = said c.args.r Pop 0 refl refl c.push_pop.ensures h9 in
+          let h9 = said c.args.r MarkAddStackSize 3 refl refl c.push_op-2.ensures h8 in
+          let i1 = said c.args.r Pop 0 refl refl c.push_op-3.ensures h9 in
           let i2 = (c.targets.ensures c.args.r).moves v o₀ _ i1 in
-          let i3 = visited z Expr (next_of c.args.recs.now c.next-body.ensures (c.nth-right.ensures ∙ ap₂ (nth c.args.recs.now) c.p-n.ensures
-          c.first-left.ensures) ∙ nth_next c.args.recs.now (word c.args.recs.now c.args.r 2) (first c.args.recs.now c.args.r)) c.expr-2.ensures i2 in
-          given (for_run (lent c.args.recs.now c.args.notes.now) v c.args.r c.p-n.ensures c.first-left.ensures A) ((c.end_for.ensures.moves c.args.r _ _ l m).moves v o₀ _ i3);
+          let i3 = visited z Expr (next_of c.args.tree.now.records.now c.next-body.ensures (c.nth-right.ensures ∙ ap₂ (nth c.args.tree.now.records.now) c.p-n.ensures
+          c.first-left.ensures) ∙ nth_next c.args.tree.now.records.now (word c.args.tree.now.records.now c.args.r 2) (first c.args.tree.now.records.now c.args.r)) c.expr-2.ensures i2 in
+          given (for_run (lent c.args.tree.now) v c.args.r c.p-n.ensures c.first-left.ensures A) ((c.end_for.ensures.moves c.args.r _ _ l m).moves v o₀ _ i3);
     }
 
 pub expr-returns-then-r-eq0 : goal.expr-returns-then-r-eq0
 expr-returns-then-r-eq0 t c =
-    resim (λ v z A. absent (lent c.args.recs.now c.args.notes.now) v Expr c.if-r-eq0.true A) stay
+    resim (λ v z A. absent (lent c.args.tree.now) v Expr c.if-r-eq0.true A) stay
 
 pub expr-expr-requires : goal.expr-expr-requires
 expr-expr-requires t c = (
-  falls_below (size c.args.recs.now) c.args.r _ 12 11 t c.decreases c.if-r-eq0.false (lit< tt) (child1 c.args.recs.now c.first.ensures),
+  falls_below (size c.args.tree.now.records.now) c.args.r _ 12 11 t c.decreases c.if-r-eq0.false (lit< tt) (child1 c.args.tree.now.records.now c.first.ensures),
   tt,
 )
 
 pub expr-block-requires : goal.expr-block-requires
 expr-block-requires t c =
-    (falls_rank (size c.args.recs.now) c.args.r 8 12 t c.decreases c.if-r-eq0.false (lit< tt), tt)
+    (falls_rank (size c.args.tree.now.records.now) c.args.r 8 12 t c.decreases c.if-r-eq0.false (lit< tt), tt)
 
 pub expr-func-requires : goal.expr-func-requires
 expr-func-requires t c =
-    (falls_rank (size c.args.recs.now) c.args.r 8 12 t c.decreases c.if-r-eq0.false (lit< tt), tt)
+    (falls_rank (size c.args.tree.now.records.now) c.args.r 8 12 t c.decreases c.if-r-eq0.false (lit< tt), tt)
 
 pub expr-table-requires : goal.expr-table-requires
 expr-table-requires t c =
-    (falls_rank (size c.args.recs.now) c.args.r 8 12 t c.decreases c.if-r-eq0.false (lit< tt), tt)
+    (falls_rank (size c.args.tree.now.records.now) c.args.r 8 12 t c.decreases c.if-r-eq0.false (lit< tt), tt)
 
 pub expr-list-requires : goal.expr-list-requires
 expr-list-requires t c =
-    (falls_rank (size c.args.recs.now) c.args.r 8 12 t c.decreases c.if-r-eq0.false (lit< tt), tt)
+    (falls_rank (size c.args.tree.now.records.now) c.args.r 8 12 t c.decreases c.if-r-eq0.false (lit< tt), tt)
 
 pub expr-expr-requires-in-9 : goal.expr-expr-requires-in-9
 expr-expr-requires-in-9 t c = (
-  falls_below (size c.args.recs.now) c.args.r _ 12 11 t c.decreases c.if-r-eq0.false (lit< tt) (child1 c.args.recs.now c.first-in-9.ensures),
+  falls_below (size c.args.tree.now.records.now) c.args.r _ 12 11 t c.decreases c.if-r-eq0.false (lit< tt) (child1 c.args.tree.now.records.now c.first-in-9.ensures),
   tt,
 )
 
 pub expr-binary-requires : goal.expr-binary-requires
 expr-binary-requires t c =
-    (falls_rank (size c.args.recs.now) c.args.r 8 12 t c.decreases c.if-r-eq0.false (lit< tt), tt)
+    (falls_rank (size c.args.tree.now.records.now) c.args.r 8 12 t c.decreases c.if-r-eq0.false (lit< tt), tt)
 
 pub expr-expr-requires-in-11 : goal.expr-expr-requires-in-11
 expr-expr-requires-in-11 t c = (
-  falls_below (size c.args.recs.now) c.args.r _ 12 11 t c.decreases c.if-r-eq0.false (lit< tt) (child1 c.args.recs.now c.first-in-11.ensures),
+  falls_below (size c.args.tree.now.records.now) c.args.r _ 12 11 t c.decreases c.if-r-eq0.false (lit< tt) (child1 c.args.tree.now.records.now c.first-in-11.ensures),
   tt,
 )
 
 pub expr-member-requires : goal.expr-member-requires
 expr-member-requires t c =
-    (falls_rank (size c.args.recs.now) c.args.r 8 12 t c.decreases c.if-r-eq0.false (lit< tt), tt)
+    (falls_rank (size c.args.tree.now.records.now) c.args.r 8 12 t c.decreases c.if-r-eq0.false (lit< tt), tt)
 
 pub expr-call-requires : goal.expr-call-requires
 expr-call-requires t c =
-    (falls_rank (size c.args.recs.now) c.args.r 8 12 t c.decreases c.if-r-eq0.false (lit< tt), tt)
+    (falls_rank (size c.args.tree.now.records.now) c.args.r 8 12 t c.decreases c.if-r-eq0.false (lit< tt), tt)
 
 pub expr-arm-requires : goal.expr-arm-requires
 expr-arm-requires t c =
-    (falls_rank (size c.args.recs.now) c.args.r 11 12 t c.decreases c.if-r-eq0.false (lit< tt), tt)
+    (falls_rank (size c.args.tree.now.records.now) c.args.r 11 12 t c.decreases c.if-r-eq0.false (lit< tt), tt)
 
 pub expr-returns-in-1 : goal.expr-returns-in-1
 unfolding does doing exec
 expr-returns-in-1 t c =
-    resim (λ v z A. by (lent c.args.recs.now c.args.notes.now) v c.args.r c.if-r-eq0.false (sym c.kind.ensures ∙ c.in-1.is) A)
+    resim (λ v z A. by (lent c.args.tree.now) v c.args.r c.if-r-eq0.false (sym c.kind.ensures ∙ c.in-1.is) A)
     (record {
       sim = λ z v o₀ A h.
-          lit_loaded c.args.r (word c.args.recs.now c.args.r 1) (word c.args.recs.now c.args.r 2) (word c.args.recs.now
+          lit_loaded c.args.r (word c.args.tree.now.records.now c.args.r 1) (word c.args.tree.now.records.now c.args.r 2) (word c.args.tree.now.records.now
           c.args.r 3) c.push_lit.ensures h;
     })
 
 pub expr-returns-in-2 : goal.expr-returns-in-2
 unfolding does doing exec
 expr-returns-in-2 t c =
-    resim (λ v z A. by (lent c.args.recs.now c.args.notes.now) v c.args.r c.if-r-eq0.false (sym c.kind.ensures ∙ c.in-2.is) A)
+    resim (λ v z A. by (lent c.args.tree.now) v c.args.r c.if-r-eq0.false (sym c.kind.ensures ∙ c.in-2.is) A)
     (record {
       sim = λ z v o₀ A h.
-          used_at (lent c.args.recs.now c.args.notes.now) c.args.r Get c.args.r c.load.ensures h;
+          used_at (lent c.args.tree.now) c.args.r Get c.args.r c.load.ensures h;
     })
 
 pub expr-returns-in-3 : goal.expr-returns-in-3
 unfolding does doing exec
 expr-returns-in-3 t c =
-    resim (λ v z A. by (lent c.args.recs.now c.args.notes.now) v c.args.r c.if-r-eq0.false (sym c.kind.ensures ∙ c.in-3.is)
+    resim (λ v z A. by (lent c.args.tree.now) v c.args.r c.if-r-eq0.false (sym c.kind.ensures ∙ c.in-3.is)
     A)
     (record {
       sim = λ z v o₀ A h.
@@ -807,72 +774,72 @@ expr-returns-in-3 t c =
 
 pub expr-returns-in-4 : goal.expr-returns-in-4
 expr-returns-in-4 t c =
-    resim (λ v z A. by (lent c.args.recs.now c.args.notes.now) v c.args.r c.if-r-eq0.false (sym c.kind.ensures ∙ c.in-4.is) A)
+    resim (λ v z A. by (lent c.args.tree.now) v c.args.r c.if-r-eq0.false (sym c.kind.ensures ∙ c.in-4.is) A)
     c.block.ensures
 
 pub expr-returns-in-5 : goal.expr-returns-in-5
 expr-returns-in-5 t c =
-    resim (λ v z A. by (lent c.args.recs.now c.args.notes.now) v c.args.r c.if-r-eq0.false (sym c.kind.ensures ∙ c.in-5.is) A)
+    resim (λ v z A. by (lent c.args.tree.now) v c.args.r c.if-r-eq0.false (sym c.kind.ensures ∙ c.in-5.is) A)
     c.func.ensures
 
 pub expr-returns-in-6 : goal.expr-returns-in-6
 expr-returns-in-6 t c =
-    resim (λ v z A. by (lent c.args.recs.now c.args.notes.now) v c.args.r c.if-r-eq0.false (sym c.kind.ensures ∙ c.in-6.is) A)
+    resim (λ v z A. by (lent c.args.tree.now) v c.args.r c.if-r-eq0.false (sym c.kind.ensures ∙ c.in-6.is) A)
     (c.effect.ensures (sym c.kind.ensures ∙ c.in-6.is))
 
 pub expr-returns-in-7 : goal.expr-returns-in-7
 expr-returns-in-7 t c =
-    resim (λ v z A. by (lent c.args.recs.now c.args.notes.now) v c.args.r c.if-r-eq0.false (sym c.kind.ensures ∙ c.in-7.is) A)
+    resim (λ v z A. by (lent c.args.tree.now) v c.args.r c.if-r-eq0.false (sym c.kind.ensures ∙ c.in-7.is) A)
     c.table.ensures
 
 pub expr-returns-in-8 : goal.expr-returns-in-8
 expr-returns-in-8 t c =
-    resim (λ v z A. by (lent c.args.recs.now c.args.notes.now) v c.args.r c.if-r-eq0.false (sym c.kind.ensures ∙ c.in-8.is) A)
+    resim (λ v z A. by (lent c.args.tree.now) v c.args.r c.if-r-eq0.false (sym c.kind.ensures ∙ c.in-8.is) A)
     c.list.ensures
 
 pub expr-returns-in-9 : goal.expr-returns-in-9
 unfolding does doing exec
 expr-returns-in-9 t c =
-    resim (λ v z A. by (lent c.args.recs.now c.args.notes.now) v c.args.r c.if-r-eq0.false (sym c.kind.ensures ∙ c.in-9.is)
+    resim (λ v z A. by (lent c.args.tree.now) v c.args.r c.if-r-eq0.false (sym c.kind.ensures ∙ c.in-9.is)
     A)
     (record {
       sim = λ z v o₀ A h.
           let h1 = visited z Expr c.first-in-9.ensures c.expr-in-9.ensures h in
-          unary c.args.r (word c.args.recs.now c.args.r 1) c.unary_operator.ensures c.push_unary.ensures h1;
+          unary c.args.r (word c.args.tree.now.records.now c.args.r 1) c.unary_operator.ensures c.push_unary.ensures h1;
     })
 
 pub expr-returns-in-10 : goal.expr-returns-in-10
 expr-returns-in-10 t c =
-    resim (λ v z A. by (lent c.args.recs.now c.args.notes.now) v c.args.r c.if-r-eq0.false (sym c.kind.ensures ∙ c.in-10.is)
+    resim (λ v z A. by (lent c.args.tree.now) v c.args.r c.if-r-eq0.false (sym c.kind.ensures ∙ c.in-10.is)
     A)
     c.binary.ensures
 
 pub expr-returns-in-11 : goal.expr-returns-in-11
 unfolding does doing exec
 expr-returns-in-11 t c =
-    resim (λ v z A. by (lent c.args.recs.now c.args.notes.now) v c.args.r c.if-r-eq0.false (sym c.kind.ensures ∙ c.in-11.is) A)
+    resim (λ v z A. by (lent c.args.tree.now) v c.args.r c.if-r-eq0.false (sym c.kind.ensures ∙ c.in-11.is) A)
     (record {
       sim = λ z v o₀ A h.
           let h1 = visited z Expr c.first-in-11.ensures c.expr-in-11.ensures h in
-          said c.args.r TypeCheck (word c.args.recs.now c.args.r 1) refl (cap_word _ (let g = c.detail.type_inv in search rules) ∙ ap cap c.detail.ensures)
-          c.push_type_check.ensures h1;
+          said c.args.r TypeCheck (word c.args.tree.now.records.now c.args.r 1) refl (cap_word _ (let g = c.detail.type_inv in search rules) ∙ ap cap c.detail.ensures)
+          c.push_op.ensures h1;
     })
 
 pub expr-returns-in-12 : goal.expr-returns-in-12
 expr-returns-in-12 t c =
-    resim (λ v z A. by (lent c.args.recs.now c.args.notes.now) v c.args.r c.if-r-eq0.false (sym c.kind.ensures ∙ c.in-12.is)
+    resim (λ v z A. by (lent c.args.tree.now) v c.args.r c.if-r-eq0.false (sym c.kind.ensures ∙ c.in-12.is)
     A)
     c.member.ensures
 
 pub expr-returns-in-13 : goal.expr-returns-in-13
 expr-returns-in-13 t c =
-    resim (λ v z A. by (lent c.args.recs.now c.args.notes.now) v c.args.r c.if-r-eq0.false (sym c.kind.ensures ∙ c.in-13.is)
+    resim (λ v z A. by (lent c.args.tree.now) v c.args.r c.if-r-eq0.false (sym c.kind.ensures ∙ c.in-13.is)
     A)
     c.call.ensures
 
 pub expr-returns-in_default : goal.expr-returns-in_default
 expr-returns-in_default t c =
-    resim (λ v z A. to_later (lent c.args.recs.now c.args.notes.now) v c.args.r _ c.if-r-eq0.false c.kind.ensures
+    resim (λ v z A. to_later (lent c.args.tree.now) v c.args.r _ c.if-r-eq0.false c.kind.ensures
     c.in_default.in_default-own.rest.0.0.0.0.0.0.0.0.0.0.0.0.1 c.in_default.in_default-own.rest.0.0.0.0.0.0.0.0.0.0.0.1
     c.in_default.in_default-own.rest.0.0.0.0.0.0.0.0.0.0.1 c.in_default.in_default-own.rest.0.0.0.0.0.0.0.0.0.1 c.in_default.in_default-own.rest.0.0.0.0.0.0.0.0.1
     c.in_default.in_default-own.rest.0.0.0.0.0.0.0.1 c.in_default.in_default-own.rest.0.0.0.0.0.0.1 c.in_default.in_default-own.rest.0.0.0.0.0.1
@@ -881,16 +848,16 @@ expr-returns-in_default t c =
 
 pub fetch-returns-then-left-eq0 : goal.fetch-returns-then-left-eq0
 fetch-returns-then-left-eq0 t c =
-    resim (λ v z A. absent (lent c.args.recs.now c.args.notes.now) v Before c.if-left-eq0.true A) stay
+    resim (λ v z A. absent (lent c.args.tree.now) v Before c.if-left-eq0.true A) stay
 
 pub fetch-returns-then-kind-ne-LEFT : goal.fetch-returns-then-kind-ne-LEFT
 fetch-returns-then-kind-ne-LEFT t c =
-    resim (λ v z A. before_other (lent c.args.recs.now c.args.notes.now) v c.args.left c.if-left-eq0.false (λ e. c.if-kind-ne-LEFT.true (c.kind.ensures ∙ e)) A) stay
+    resim (λ v z A. before_other (lent c.args.tree.now) v c.args.left c.if-left-eq0.false (λ e. c.if-kind-ne-LEFT.true (c.kind.ensures ∙ e)) A) stay
 
 pub fetch-returns-then-detail-eq-PLAIN : goal.fetch-returns-then-detail-eq-PLAIN
 unfolding does doing exec
 fetch-returns-then-detail-eq-PLAIN t c =
-    resim (λ v z A. before_plain (lent c.args.recs.now c.args.notes.now) v c.args.left c.if-left-eq0.false (sym c.kind.ensures ∙ c.if-kind-ne-LEFT.false) (sym
+    resim (λ v z A. before_plain (lent c.args.tree.now) v c.args.left c.if-left-eq0.false (sym c.kind.ensures ∙ c.if-kind-ne-LEFT.false) (sym
     c.detail.ensures ∙ c.if-detail-eq-PLAIN.true) A)
     (record {
       sim = λ z v o₀ A h.
@@ -903,15 +870,15 @@ fetch-returns-then-is_meta t c =
     record {
       sim = λ z v o₀ A h.
           let h1 = used z c.args.left 0 Get c.first.ensures c.load.ensures h in
-          let h2 = said c.args.left Copy 1 refl refl c.push_copy.ensures h1 in
-          given (before_meta (lent c.args.recs.now c.args.notes.now) v c.args.left c.if-left-eq0.false (sym c.kind.ensures ∙ c.if-kind-ne-LEFT.false) (λ e.
+          let h2 = said c.args.left Copy 1 refl refl c.push_op.ensures h1 in
+          given (before_meta (lent c.args.tree.now) v c.args.left c.if-left-eq0.false (sym c.kind.ensures ∙ c.if-kind-ne-LEFT.false) (λ e.
           c.if-detail-eq-PLAIN.false (c.detail.ensures ∙ e)) c.left_property-property.ensures (sym c.is_meta.ensures ∙ c.if-is_meta.true) A) (got
-          c.args.left (word c.args.recs.now c.args.left 1 - 1) c.left_property-property.ensures c.push_get.ensures h2);
+          c.args.left (word c.args.tree.now.records.now c.args.left 1 - 1) c.left_property-property.ensures c.push_get.ensures h2);
     }
 
 pub fetch-prop-requires : goal.fetch-prop-requires
 fetch-prop-requires t c =
-    (falls_rank (size c.args.recs.now) c.args.left 6 8 t c.decreases c.if-left-eq0.false (lit< tt), tt)
+    (falls_rank (size c.args.tree.now.records.now) c.args.left 6 8 t c.decreases c.if-left-eq0.false (lit< tt), tt)
 
 pub fetch-returns : goal.fetch-returns
 unfolding does doing exec
@@ -919,22 +886,22 @@ fetch-returns t c =
     record {
       sim = λ z v o₀ A h.
           let h1 = used z c.args.left 0 Get c.first.ensures c.load.ensures h in
-          let h2 = propped z c.args.left (word c.args.recs.now c.args.left 1 - 1) c.left_property-property.ensures c.prop.ensures h1 in
-          let h3 = said c.args.left Copy 2 refl refl c.push_copy-2.ensures h2 in
-          let h4 = said c.args.left Copy 2 refl refl c.push_copy-3.ensures h3 in
-          given (before_member (lent c.args.recs.now c.args.notes.now) v c.args.left c.if-left-eq0.false (sym c.kind.ensures ∙ c.if-kind-ne-LEFT.false) (λ e.
+          let h2 = propped z c.args.left (word c.args.tree.now.records.now c.args.left 1 - 1) c.left_property-property.ensures c.prop.ensures h1 in
+          let h3 = said c.args.left Copy 2 refl refl c.push_op-2.ensures h2 in
+          let h4 = said c.args.left Copy 2 refl refl c.push_op-3.ensures h3 in
+          given (before_member (lent c.args.tree.now) v c.args.left c.if-left-eq0.false (sym c.kind.ensures ∙ c.if-kind-ne-LEFT.false) (λ e.
           c.if-detail-eq-PLAIN.false (c.detail.ensures ∙ e)) c.left_property-property.ensures (sym c.is_meta.ensures ∙ c.if-is_meta.false) A) (got c.args.left
-          (word c.args.recs.now c.args.left 1 - 1) c.left_property-property.ensures c.push_get-2.ensures h4);
+          (word c.args.tree.now.records.now c.args.left 1 - 1) c.left_property-property.ensures c.push_get-2.ensures h4);
     }
 
 pub func-expr-requires : goal.func-expr-requires
 func-expr-requires t c =
-    (falls_to (size c.args.recs.now) c.args.r _ 12 7 t c.decreases (lit< tt) (child1 c.args.recs.now c.first.ensures), tt)
+    (falls_to (size c.args.tree.now.records.now) c.args.r _ 12 7 t c.decreases (lit< tt) (child1 c.args.tree.now.records.now c.first.ensures), tt)
 
 pub func-returns-then-detail-ne-NAMED : goal.func-returns-then-detail-ne-NAMED
 unfolding does doing exec
 func-returns-then-detail-ne-NAMED t c =
-    resim (λ v z A. either_no (lent c.args.recs.now c.args.notes.now) v c.args.r _ _ _ A (ne_eqb _ 1 (λ e. c.if-detail-ne-NAMED.true (c.detail.ensures ∙ e))))
+    resim (λ v z A. either_no (lent c.args.tree.now) v c.args.r _ _ _ A (ne_eqb _ 1 (λ e. c.if-detail-ne-NAMED.true (c.detail.ensures ∙ e))))
     (record {
       sim = λ z v o₀ A h.
           visited z Expr c.first.ensures c.expr.ensures h;
@@ -942,24 +909,24 @@ func-returns-then-detail-ne-NAMED t c =
 
 pub func-expr-requires-2 : goal.func-expr-requires-2
 func-expr-requires-2 t c = (
-  falls_to (size c.args.recs.now) c.args.r _ 12 7 t c.decreases (lit< tt) (child2 c.args.recs.now c.next-function.ensures (child1 c.args.recs.now c.first-name.ensures)),
+  falls_to (size c.args.tree.now.records.now) c.args.r _ 12 7 t c.decreases (lit< tt) (child2 c.args.tree.now.records.now c.next-function.ensures (child1 c.args.tree.now.records.now c.first-name.ensures)),
   tt,
 )
 
 pub func-returns : goal.func-returns
 unfolding does doing exec
 func-returns t c =
-    resim (λ v z A. either_yes (lent c.args.recs.now c.args.notes.now) v c.args.r _ _ _ A (eq-eqb _ 1 (sym c.detail.ensures ∙ c.if-detail-ne-NAMED.false)))
+    resim (λ v z A. either_yes (lent c.args.tree.now) v c.args.r _ _ _ A (eq-eqb _ 1 (sym c.detail.ensures ∙ c.if-detail-ne-NAMED.false)))
     (record {
       sim = λ z v o₀ A h.
-          let h1 = visited z Expr (next_of c.args.recs.now c.next-function.ensures c.first-name.ensures) c.expr-2.ensures h in
+          let h1 = visited z Expr (next_of c.args.tree.now.records.now c.next-function.ensures c.first-name.ensures) c.expr-2.ensures h in
           let h2 = used z c.args.r 0 Set c.first-name.ensures c.store.ensures h1 in
           nulled c.args.r c.push_null.ensures h2;
     })
 
 pub glo-expr-requires : goal.glo-expr-requires
 glo-expr-requires t c = (
-  falls_to (size c.args.recs.now) c.args.r _ 12 7 t c.decreases (lit< tt) (child2 c.args.recs.now c.next-right.ensures (child1 c.args.recs.now c.first-left.ensures)),
+  falls_to (size c.args.tree.now.records.now) c.args.r _ 12 7 t c.decreases (lit< tt) (child2 c.args.tree.now.records.now c.next-right.ensures (child1 c.args.tree.now.records.now c.first-left.ensures)),
   tt,
 )
 
@@ -968,14 +935,14 @@ unfolding does doing exec
 glo-returns t c =
     record {
       sim = λ z v o₀ A h.
-          let h1 = visited z Expr (next_of c.args.recs.now c.next-right.ensures c.first-left.ensures) c.expr.ensures h in
+          let h1 = visited z Expr (next_of c.args.tree.now.records.now c.next-right.ensures c.first-left.ensures) c.expr.ensures h in
           let h2 = used z c.args.r 0 Set c.first-left.ensures c.store.ensures h1 in
           nulled c.args.r c.push_null.ensures h2;
     }
 
 pub import-all-requires : goal.import-all-requires
 import-all-requires t c = (
-  falls_to (size c.args.recs.now) c.args.r _ 13 7 t c.decreases (lit< tt) (linked_nth c.args.recs.now c.args.r c.p.result
+  falls_to (size c.args.tree.now.records.now) c.args.r _ 13 7 t c.decreases (lit< tt) (linked_nth c.args.tree.now.records.now c.args.r c.p.result
       c.first.ensures c.nth-items.ensures),
   tt,
 )
@@ -985,16 +952,16 @@ unfolding does doing exec
 import-returns-in-2 t c =
     record {
       sim = λ z v o₀ A h.
-          let h1 = str_loaded c.args.r Import (word c.args.recs.now c.args.r 3) c.q.ensures c.push_import.ensures h in
+          let h1 = str_loaded c.args.r Import (word c.args.tree.now.records.now c.args.r 3) c.q.ensures c.push_import.ensures h in
           let q = (sym c.detail.ensures ∙ c.in-2.is) in
-          let h2 = through_at z ((c.width.ensures ∙ ap (λ (x : ℕ). width (own_tree (forest c.args.recs.now x))) (c.nth-items.ensures ∙ ap₂ (nth c.args.recs.now)
-          c.p.ensures c.first.ensures)) ∙ sym (width_past c.args.recs.now (word c.args.recs.now c.args.r
-          2) (first c.args.recs.now c.args.r))) (c.nth-items.ensures ∙ ap₂ (nth c.args.recs.now) c.p.ensures c.first.ensures)
+          let h2 = through_at z ((c.width.ensures ∙ ap (λ (x : ℕ). width (own_tree (forest c.args.tree.now.records.now x))) (c.nth-items.ensures ∙ ap₂ (nth c.args.tree.now.records.now)
+          c.p.ensures c.first.ensures)) ∙ sym (width_past c.args.tree.now.records.now (word c.args.tree.now.records.now c.args.r
+          2) (first c.args.tree.now.records.now c.args.r))) (c.nth-items.ensures ∙ ap₂ (nth c.args.tree.now.records.now) c.p.ensures c.first.ensures)
           c.all.ensures h1 in
-          let h3 = said c.args.r Pop 0 refl refl c.push_pop.ensures h2 in
-          given (either_no (lent c.args.recs.now c.args.notes.now) v c.args.r _ _ _ _ (le-ltb (word c.args.recs.now c.args.r
-          1) 2 (omega (arith, q))) ∙ either_yes (lent c.args.recs.now c.args.notes.now) v c.args.r _ _ _ _ (eq-eqb _ 2 q) ∙ items_run
-          (lent c.args.recs.now c.args.notes.now) v c.args.r _) (nulled c.args.r c.push_null.ensures h3);
+          let h3 = said c.args.r Pop 0 refl refl c.push_op.ensures h2 in
+          given (either_no (lent c.args.tree.now) v c.args.r _ _ _ _ (le-ltb (word c.args.tree.now.records.now c.args.r
+          1) 2 (omega (arith, q))) ∙ either_yes (lent c.args.tree.now) v c.args.r _ _ _ _ (eq-eqb _ 2 q) ∙ items_run
+          (lent c.args.tree.now) v c.args.r _) (nulled c.args.r c.push_null.ensures h3);
     }
 
 pub import-returns-in-0 : goal.import-returns-in-0
@@ -1002,10 +969,10 @@ unfolding does doing exec
 import-returns-in-0 t c =
     record {
       sim = λ z v o₀ A h.
-          let h1 = str_loaded c.args.r Import (word c.args.recs.now c.args.r 3) c.q.ensures c.push_import.ensures h in
-          let h2 = (c.simple.ensures _).sim z v o₀ _ h1 in
-          given (either_yes (lent c.args.recs.now c.args.notes.now) v c.args.r _ _ _ _ (lt-ltb _ 2 (subst (λ (d : ℕ). d < 2) c.detail.ensures
-          c.in-0.if-this-lt2-own.true)) ∙ simple_part (lent c.args.recs.now c.args.notes.now) v c.args.r (word c.args.recs.now
+          let h1 = str_loaded c.args.r Import (word c.args.tree.now.records.now c.args.r 3) c.q.ensures c.push_import.ensures h in
+          let h2 = c.simple.ensures.sim z v o₀ _ h1 in
+          given (either_yes (lent c.args.tree.now) v c.args.r _ _ _ _ (lt-ltb _ 2 (subst (λ (d : ℕ). d < 2) c.detail.ensures
+          c.in-0.if-this-lt2-own.true)) ∙ simple_part (lent c.args.tree.now) v c.args.r (word c.args.tree.now.records.now
           c.args.r 2) _) (nulled c.args.r c.push_null-in-0.ensures h2);
     }
 
@@ -1014,75 +981,70 @@ unfolding does doing exec
 import-returns-in_default t c =
     record {
       sim = λ z v o₀ A h.
-          let h1 = str_loaded c.args.r Import (word c.args.recs.now c.args.r 3) c.q.ensures c.push_import.ensures h in
-          let h2 = said c.args.r ImportGlob 0 refl refl c.push_import_glob.ensures h1 in
-          given (either_no (lent c.args.recs.now c.args.notes.now) v c.args.r _ _ _ _ (le-ltb (word c.args.recs.now c.args.r
-          1) 2 (subst (λ (d : ℕ). 2 ≤ d) c.detail.ensures c.in_default.if-this-lt2-own.false)) ∙ either_no (lent c.args.recs.now c.args.notes.now) v c.args.r _ _ _ _
+          let h1 = str_loaded c.args.r Import (word c.args.tree.now.records.now c.args.r 3) c.q.ensures c.push_import.ensures h in
+          let h2 = said c.args.r ImportGlob 0 refl refl c.push_op-in_default.ensures h1 in
+          given (either_no (lent c.args.tree.now) v c.args.r _ _ _ _ (le-ltb (word c.args.tree.now.records.now c.args.r
+          1) 2 (subst (λ (d : ℕ). 2 ≤ d) c.detail.ensures c.in_default.if-this-lt2-own.false)) ∙ either_no (lent c.args.tree.now) v c.args.r _ _ _ _
           (ne_eqb _ 2 (λ e. c.in_default.in_default-own.rest.1 (c.detail.ensures ∙ e)))) (nulled c.args.r c.push_null-in_default.ensures h2);
     }
 
-pub inner-returns-then-not-nests : goal.inner-returns-then-not-nests
-inner-returns-then-not-nests t c =
-    resim (λ v z A. stream_inside (lent c.args.recs.now c.args.notes.now) v c.args.r A)
-    (inside_none (lent c.args.recs.now c.args.notes.now) c.args.r (words c.args.recs.now c.args.r) (λ v. does (lent c.args.recs.now c.args.notes.now) v c.args.r
-    (stream_steps (words c.args.recs.now c.args.r))) (sym c.nests.ensures ∙ not-true
-    _ (ap not c.if-not-nests.true)))
+pub inner-returns-then-not-cx : goal.inner-returns-then-not-cx
+inner-returns-then-not-cx t c =
+    resim (λ v z A. stream_inside (lent c.args.tree.now) v c.args.r A)
+    (inside_none (lent c.args.tree.now) c.args.r (words c.args.tree.now.records.now c.args.r) (λ v. does (lent c.args.tree.now) v c.args.r
+    (stream_steps (words c.args.tree.now.records.now c.args.r))) (not-true _ (ap not c.if-not-cx.true)))
 
 pub inner-returns-then-not-goes_on : goal.inner-returns-then-not-goes_on
 inner-returns-then-not-goes_on t c =
-    resim (λ v z A. stream_inside (lent c.args.recs.now c.args.notes.now) v c.args.r A)
-    (inside_still (lent c.args.recs.now c.args.notes.now) c.args.r (words c.args.recs.now c.args.r) (λ v. does (lent c.args.recs.now c.args.notes.now) v c.args.r
-    (stream_steps (words c.args.recs.now c.args.r))) (sym c.goes_on.ensures ∙
+    resim (λ v z A. stream_inside (lent c.args.tree.now) v c.args.r A)
+    (inside_still (lent c.args.tree.now) c.args.r (words c.args.tree.now.records.now c.args.r) (λ v. does (lent c.args.tree.now) v c.args.r
+    (stream_steps (words c.args.tree.now.records.now c.args.r))) (sym c.goes_on.ensures ∙
     not-true _ (ap not c.if-not-goes_on.true)))
 
 pub inner-returns-then-not-is_numbered : goal.inner-returns-then-not-is_numbered
 inner-returns-then-not-is_numbered t c =
-    resim (λ v z A. stream_inside (lent c.args.recs.now c.args.notes.now) v c.args.r A)
-    (inside_skipped (lent c.args.recs.now c.args.notes.now) c.args.r (words c.args.recs.now c.args.r) (λ v. does (lent c.args.recs.now c.args.notes.now) v c.args.r
-    (stream_steps (words c.args.recs.now c.args.r))) (let s : word c.args.recs.now c.args.r 2 ≤ limit = omega (arith, c.type_inv.recs (c.args.r * 8 + 2)) in s)
-    (sym c.nests.ensures ∙
-    not-false _ (ap not c.if-not-nests.false)) (sym c.goes_on.ensures ∙ not-false _ (ap not c.if-not-goes_on.false)) c.is_numbered.ensures (not-true _ (ap not
+    resim (λ v z A. stream_inside (lent c.args.tree.now) v c.args.r A)
+    (inside_skipped (lent c.args.tree.now) c.args.r (words c.args.tree.now.records.now c.args.r) (λ v. does (lent c.args.tree.now) v c.args.r
+    (stream_steps (words c.args.tree.now.records.now c.args.r))) (not-false _ (ap not c.if-not-cx.false)) (sym c.goes_on.ensures ∙ not-false _ (ap not c.if-not-goes_on.false)) c.is_numbered.ensures (not-true _ (ap not
     c.if-not-is_numbered.true)) c.refuse.ensures)
 
 pub inner-returns : goal.inner-returns
 inner-returns t c =
-    resim (λ v z A. stream_inside (lent c.args.recs.now c.args.notes.now) v c.args.r A)
-    (inside_goes (lent c.args.recs.now c.args.notes.now) c.args.r (words c.args.recs.now c.args.r) (λ v. does (lent c.args.recs.now c.args.notes.now) v c.args.r
-    (stream_steps (words c.args.recs.now c.args.r))) (let s : word c.args.recs.now c.args.r 2 ≤ limit = omega (arith, c.type_inv.recs (c.args.r * 8 + 2)) in s)
-    (sym c.nests.ensures ∙
-    not-false _ (ap not c.if-not-nests.false)) (sym c.goes_on.ensures ∙ not-false _ (ap not c.if-not-goes_on.false)) c.is_numbered.ensures (not-false _ (ap not
+    resim (λ v z A. stream_inside (lent c.args.tree.now) v c.args.r A)
+    (inside_goes (lent c.args.tree.now) c.args.r (words c.args.tree.now.records.now c.args.r) (λ v. does (lent c.args.tree.now) v c.args.r
+    (stream_steps (words c.args.tree.now.records.now c.args.r))) (not-false _ (ap not c.if-not-cx.false)) (sym c.goes_on.ensures ∙ not-false _ (ap not c.if-not-goes_on.false)) c.is_numbered.ensures (not-false _ (ap not
     c.if-not-is_numbered.false))
-    c.begin_function-outer.ensures c.body.ensures c.keep_error.ensures c.end_function.ensures)
+    c.begin_function-outer.ensures.outer c.begin_function-outer.ensures.context c.body.ensures c.keep_error.ensures c.end_function.ensures)
 
 pub list-all-requires : goal.list-all-requires
 list-all-requires t c =
-    (falls_to (size c.args.recs.now) c.args.r _ 13 7 t c.decreases (lit< tt) (child1 c.args.recs.now c.first-items.ensures), tt)
+    (falls_to (size c.args.tree.now.records.now) c.args.r _ 13 7 t c.decreases (lit< tt) (child1 c.args.tree.now.records.now c.first-items.ensures), tt)
 
 pub list-returns : goal.list-returns
 unfolding does doing exec
 list-returns t c =
     record {
       sim = λ z v o₀ A h.
-          let w = (c.width-n.ensures ∙ ap (λ (x : ℕ). width (own_tree (forest c.args.recs.now x))) c.first-items.ensures) in
+          let w = (c.width-n.ensures ∙ ap (λ (x : ℕ). width (own_tree (forest c.args.tree.now.records.now x))) c.first-items.ensures) in
           let h1 = through_at z w c.first-items.ensures c.all.ensures h in
-          given (visits_part (lent c.args.recs.now c.args.notes.now) v c.args.r Expr 0 (width (own_tree (children c.args.recs.now
-          c.args.r))) (push_op BuildList (width (own_tree (children c.args.recs.now c.args.r))) ∷ []) [] A) (said c.args.r
-          BuildList _ refl (c.capped.ensures ∙ ap cap w) c.push_build_list.ensures h1);
+          given (visits_part (lent c.args.tree.now) v c.args.r Expr 0 (width (own_tree (children c.args.tree.now.records.now
+          c.args.r))) (push_op BuildList (width (own_tree (children c.args.tree.now.records.now c.args.r))) ∷ []) [] A) (said c.args.r
+          BuildList _ refl (c.capped.ensures ∙ ap cap w) c.push_op.ensures h1);
     }
 
 pub member-expr-requires : goal.member-expr-requires
 member-expr-requires t c =
-    (falls_to (size c.args.recs.now) c.args.r _ 12 7 t c.decreases (lit< tt) (child1 c.args.recs.now c.first-table.ensures), tt)
+    (falls_to (size c.args.tree.now.records.now) c.args.r _ 12 7 t c.decreases (lit< tt) (child1 c.args.tree.now.records.now c.first-table.ensures), tt)
 
 pub member-returns-then-is_unlabelled : goal.member-returns-then-is_unlabelled
 member-returns-then-is_unlabelled t c =
     record {
       sim = λ z v o₀ A h.
           let h1 = visited z Expr c.first-table.ensures c.expr.ensures h in
-          let t = label_test (word c.args.recs.now c.args.r 1) h1 c.is_unlabelled.ensures in
-          let p = propped z c.args.r (word c.args.recs.now c.args.r 1 % 8) c.property_of-property.ensures c.prop.ensures h1 in
-          let g = got c.args.r (word c.args.recs.now c.args.r 1 % 8) c.property_of-property.ensures c.push_get.ensures p in
-          given (member_bare (lent c.args.recs.now c.args.notes.now) v c.args.r (t ∙ c.if-is_unlabelled.true) A) (g);
+          let t = label_test (word c.args.tree.now.records.now c.args.r 1) h1 c.is_unlabelled.ensures in
+          let p = propped z c.args.r (word c.args.tree.now.records.now c.args.r 1 % 8) c.property_of-property.ensures c.prop.ensures h1 in
+          let g = got c.args.r (word c.args.tree.now.records.now c.args.r 1 % 8) c.property_of-property.ensures c.push_get.ensures p in
+          given (member_bare (lent c.args.tree.now) v c.args.r (t ∙ c.if-is_unlabelled.true) A) (g);
     }
 
 pub member-returns : goal.member-returns
@@ -1090,20 +1052,20 @@ member-returns t c =
     record {
       sim = λ z v o₀ A h.
           let h1 = visited z Expr c.first-table.ensures c.expr.ensures h in
-          let t = label_test (word c.args.recs.now c.args.r 1) h1 c.is_unlabelled.ensures in
+          let t = label_test (word c.args.tree.now.records.now c.args.r 1) h1 c.is_unlabelled.ensures in
           let l = label c.get_label-safe_label.ensures h1 in
           let h2 = labelled c.get_label-safe_label.ensures h1 in
-          let h3 = (c.push_safe_jump.ensures.moves _ _ l).moves v o₀ _ h2 in
-          let p = propped z c.args.r (word c.args.recs.now c.args.r 1 % 8) c.property_of-property.ensures c.prop-2.ensures h3 in
-          let g = got c.args.r (word c.args.recs.now c.args.r 1 % 8) c.property_of-property.ensures c.push_get-2.ensures p in
+          let h3 = (c.push_safe_jump.ensures.moves _ l).moves v o₀ _ h2 in
+          let p = propped z c.args.r (word c.args.tree.now.records.now c.args.r 1 % 8) c.property_of-property.ensures c.prop-2.ensures h3 in
+          let g = got c.args.r (word c.args.tree.now.records.now c.args.r 1 % 8) c.property_of-property.ensures c.push_get-2.ensures p in
           let q = g in
-          given (member_run (lent c.args.recs.now c.args.notes.now) v c.args.r (t ∙ c.if-is_unlabelled.false) A) (placed c.args.r _ refl l c.push_label.ensures q);
+          given (member_run (lent c.args.tree.now) v c.args.r (t ∙ c.if-is_unlabelled.false) A) (placed c.args.r _ refl l c.push_label.ensures q);
     }
 
 pub multi-returns-then-n-width : goal.multi-returns-then-n-width
 multi-returns-then-n-width t c =
-    resim (λ v z A. multi_no (lent c.args.recs.now c.args.notes.now) v c.args.r (λ e. c.if-n-width.true (ap (λ (n : ℕ). n + n) c.p-n.ensures
-    ∙ e ∙ sym (c.width.ensures ∙ ap (λ (x : ℕ). width (own_tree (forest c.args.recs.now x))) c.first-left.ensures))) A)
+    resim (λ v z A. multi_no (lent c.args.tree.now) v c.args.r (λ e. c.if-n-width.true (ap (λ (n : ℕ). n + n) c.p-n.ensures
+    ∙ e ∙ sym (c.width.ensures ∙ ap (λ (x : ℕ). width (own_tree (forest c.args.tree.now.records.now x))) c.first-left.ensures))) A)
     (record {
       sim = λ z v o₀ A h.
           halted (Refused Lengths c.args.r) c.refuse.ensures h;
@@ -1111,48 +1073,56 @@ multi-returns-then-n-width t c =
 
 pub multi-all-requires : goal.multi-all-requires
 multi-all-requires t c = (
-  falls_to (size c.args.recs.now) c.args.r _ 13 8 t c.decreases (lit< tt) (linked_nth c.args.recs.now c.args.r c.p-n.result
+  falls_to (size c.args.tree.now.records.now) c.args.r _ 13 8 t c.decreases (lit< tt) (linked_nth c.args.tree.now.records.now c.args.r c.p-n.result
       c.first-left.ensures c.nth-right.ensures),
   tt,
 )
 
+pub multi-loop-init : goal.multi-loop-init
+multi-loop-init t c =
+    let e = c.if-n-width.false ∙ (c.width.ensures ∙ ap (λ (x : ℕ). width (own_tree (forest c.args.tree.now.records.now x))) c.first-left.ensures) in
+    downing_start (lent c.args.tree.now) c.args.r _ _ (omega arith) (omega (arith, e)) c.first-left.ensures c.less.ensures c.nth-at.ensures
+
 pub multi-returns-then-at-r : goal.multi-returns-then-at-r
 multi-returns-then-at-r t c =
+    let lt = c.loop-test.true in
     record {
       sim = λ z v o₀ A h.
-          let h1 = through_at z c.p-n.ensures (c.nth-right.ensures ∙ ap₂ (nth c.args.recs.now) c.p-n.ensures c.first-left.ensures) c.all.ensures h in
-          (downing_never (lent c.args.recs.now c.args.notes.now) c.args.r _ c.loop-i.invariant c.loop-i-test.true c.if-at-r.true {f = λ w
-          B. does (lent c.args.recs.now c.args.notes.now) v c.args.r (assign_multi_steps (words c.args.recs.now c.args.r)
-          (own_tree (children c.args.recs.now c.args.r))) A}).sim z v o₀ _ h1;
+          let h1 = through_at z c.p-n.ensures (c.nth-right.ensures ∙ ap₂ (nth c.args.tree.now.records.now) c.p-n.ensures c.first-left.ensures) c.all.ensures h in
+          (downing_never (lent c.args.tree.now) c.args.r _ c.loop.invariant (omega arith) c.if-at-r.true {f = λ w
+          B. does (lent c.args.tree.now) v c.args.r (assign_multi_steps (words c.args.tree.now.records.now c.args.r)
+          (own_tree (children c.args.tree.now.records.now c.args.r))) A}).sim z v o₀ _ h1;
     }
 
 pub multi-target-requires : goal.multi-target-requires
 multi-target-requires t c =
-    (falls_past (size c.args.recs.now) c.args.r _ t c.decreases c.if-at-r.false, tt)
+    (falls_past (size c.args.tree.now.records.now) c.args.r _ t c.decreases c.if-at-r.false, tt)
 
-pub multi-loop-i-preserved : goal.multi-loop-i-preserved
-multi-loop-i-preserved t c =
-    downing_again (lent c.args.recs.now c.args.notes.now) c.args.r _ c.loop-i.invariant c.loop-i-test.true c.earlier-at.ensures refl
-    c.target.ensures c.target.auto.code c.target.auto.consts
+pub multi-loop-preserved : goal.multi-loop-preserved
+multi-loop-preserved t c =
+    let lt = c.loop-test.true in
+    downing_again (lent c.args.tree.now) c.args.r _ c.loop.invariant (omega arith) c.earlier-at.ensures (omega arith)
+    c.target.ensures
 
 pub multi-returns : goal.multi-returns
 multi-returns t c =
+    let le = c.loop-test.false in
     record {
       sim = λ z v o₀ A h.
-          let h1 = through_at z c.p-n.ensures (c.nth-right.ensures ∙ ap₂ (nth c.args.recs.now) c.p-n.ensures c.first-left.ensures) c.all.ensures h in
-          let h2 = (downing_end (lent c.args.recs.now c.args.notes.now) c.args.r _ c.loop-i.invariant c.loop-i-test.false).sim z v o₀ _ h1 in
-          given (multi_yes (lent c.args.recs.now c.args.notes.now) v c.args.r c.p-n.ensures (ap (λ (n : ℕ). n + n) (sym c.p-n.ensures) ∙ c.if-n-width.false ∙
-          (c.width.ensures ∙ ap (λ (x : ℕ). width (own_tree (forest c.args.recs.now x))) c.first-left.ensures))
+          let h1 = through_at z c.p-n.ensures (c.nth-right.ensures ∙ ap₂ (nth c.args.tree.now.records.now) c.p-n.ensures c.first-left.ensures) c.all.ensures h in
+          let h2 = (downing_end (lent c.args.tree.now) c.args.r _ c.loop.invariant (omega arith)).sim z v o₀ _ h1 in
+          given (multi_yes (lent c.args.tree.now) v c.args.r c.p-n.ensures (ap (λ (n : ℕ). n + n) (sym c.p-n.ensures) ∙ c.if-n-width.false ∙
+          (c.width.ensures ∙ ap (λ (x : ℕ). width (own_tree (forest c.args.tree.now.records.now x))) c.first-left.ensures))
           A) (nulled c.args.r c.push_null.ensures h2);
     }
 
 pub or-expr-requires : goal.or-expr-requires
 or-expr-requires t c =
-    (falls_to (size c.args.recs.now) c.args.r _ 12 5 t c.decreases (lit< tt) (child1 c.args.recs.now c.first-left.ensures), tt)
+    (falls_to (size c.args.tree.now.records.now) c.args.r _ 12 5 t c.decreases (lit< tt) (child1 c.args.tree.now.records.now c.first-left.ensures), tt)
 
 pub or-expr-requires-2 : goal.or-expr-requires-2
 or-expr-requires-2 t c = (
-  falls_to (size c.args.recs.now) c.args.r _ 12 5 t c.decreases (lit< tt) (child2 c.args.recs.now c.next-right.ensures (child1 c.args.recs.now c.first-left.ensures)),
+  falls_to (size c.args.tree.now.records.now) c.args.r _ 12 5 t c.decreases (lit< tt) (child2 c.args.tree.now.records.now c.next-right.ensures (child1 c.args.tree.now.records.now c.first-left.ensures)),
   tt,
 )
 
@@ -1164,49 +1134,49 @@ or-returns t c =
           let l = label c.get_label-label.ensures h in
           let h1 = labelled c.get_label-label.ensures h in
           let h2 = visited z Expr c.first-left.ensures c.expr.ensures h1 in
-          let h3 = jumped c.args.r JumpIfTrueOrPop _ refl l c.push_jump_if_true_or_pop.ensures h2 in
-          let h4 = visited z Expr (next_of c.args.recs.now c.next-right.ensures c.first-left.ensures) c.expr-2.ensures h3 in
+          let h3 = jumped c.args.r JumpIfTrueOrPop _ refl l c.push_op.ensures h2 in
+          let h4 = visited z Expr (next_of c.args.tree.now.records.now c.next-right.ensures c.first-left.ensures) c.expr-2.ensures h3 in
           placed c.args.r _ refl l c.push_label.ensures h4;
     }
 
 pub prop-expr-requires : goal.prop-expr-requires
 prop-expr-requires t c = (
-  falls_to (size c.args.recs.now) c.args.r _ 12 5 t c.decreases (lit< tt) (child2 c.args.recs.now c.next-held.ensures (child1 c.args.recs.now c.first-before.ensures)),
+  falls_to (size c.args.tree.now.records.now) c.args.r _ 12 5 t c.decreases (lit< tt) (child2 c.args.tree.now.records.now c.next-held.ensures (child1 c.args.tree.now.records.now c.first-before.ensures)),
   tt,
 )
 
 pub prop-returns-in-Bracket : goal.prop-returns-in-Bracket
 unfolding does doing exec
 prop-returns-in-Bracket t c =
-    resim (λ v z A. either_yes (lent c.args.recs.now c.args.notes.now) v c.args.r _ _ _ A (eq-eqb _ 0 (sym (member_tag c.args.property) ∙ c.in-Bracket.in-Bracket-own.keys1)))
+    resim (λ v z A. either_yes (lent c.args.tree.now) v c.args.r _ _ _ A (eq-eqb _ 0 (sym (member_tag c.args.property) ∙ c.in-Bracket.in-Bracket-own.keys1)))
     (record {
       sim = λ z v o₀ A h.
-          visited z Expr (next_of c.args.recs.now c.next-held.ensures c.first-before.ensures) c.expr.ensures h;
+          visited z Expr (next_of c.args.tree.now.records.now c.next-held.ensures c.first-before.ensures) c.expr.ensures h;
     })
 
 pub prop-returns-in-Dot : goal.prop-returns-in-Dot
 unfolding does doing exec
 prop-returns-in-Dot t c =
-    resim (λ v z A. either_no (lent c.args.recs.now c.args.notes.now) v c.args.r _ _ _ A (ne_eqb _ 0 (is_held (subst (λ (n : ℕ). (n ≡ 1)
-    ⊎ (n ≡ 2)) (member_tag c.args.property) c.in-Dot.in-Dot-own.keys2)).0) ∙ either_yes (lent c.args.recs.now c.args.notes.now) v c.args.r _ _ _ A (lt-ltb _ 3 (is_held
+    resim (λ v z A. either_no (lent c.args.tree.now) v c.args.r _ _ _ A (ne_eqb _ 0 (is_held (subst (λ (n : ℕ). (n ≡ 1)
+    ⊎ (n ≡ 2)) (member_tag c.args.property) c.in-Dot.in-Dot-own.keys2)).0) ∙ either_yes (lent c.args.tree.now) v c.args.r _ _ _ A (lt-ltb _ 3 (is_held
     (subst (λ (n : ℕ). (n ≡ 1) ⊎ (n ≡ 2)) (member_tag c.args.property) c.in-Dot.in-Dot-own.keys2)).1))
     (record {
       sim = λ z v o₀ A h.
-          str_loaded (number_of (ident_at c.args.recs.now c.args.r 1)) LoadConst (child (own_tree (children c.args.recs.now c.args.r)) 1).q (property_name
-          c.args.recs.now c.args.r c.first-before.ensures c.next-held.ensures c.name_of-name.ensures) c.push_load_const.ensures h;
+          str_loaded (number_of (ident_at c.args.tree.now.records.now c.args.r 1)) LoadConst (child (own_tree (children c.args.tree.now.records.now c.args.r)) 1).q (property_name
+          c.args.tree.now.records.now c.args.r c.first-before.ensures c.next-held.ensures c.name_of-name.ensures) c.push_load_const.ensures h;
     })
 
 pub prop-returns-in_default : goal.prop-returns-in_default
 unfolding does doing exec
 prop-returns-in_default t c =
-    resim (λ v z A. either_no (lent c.args.recs.now c.args.notes.now) v c.args.r _ _ _ A (ne_eqb _ 0 (is_none (subst (λ (n : ℕ). (n ≡ 3) ⊎
-    ((n ≡ 4) ⊎ (n ≡ 5))) (member_tag c.args.property) c.in_default.in_default-own.keys3)).0) ∙ either_no (lent c.args.recs.now c.args.notes.now) v c.args.r _ _ _ A
+    resim (λ v z A. either_no (lent c.args.tree.now) v c.args.r _ _ _ A (ne_eqb _ 0 (is_none (subst (λ (n : ℕ). (n ≡ 3) ⊎
+    ((n ≡ 4) ⊎ (n ≡ 5))) (member_tag c.args.property) c.in_default.in_default-own.keys3)).0) ∙ either_no (lent c.args.tree.now) v c.args.r _ _ _ A
     (le-ltb _ 3 (is_none (subst (λ (n : ℕ). (n ≡ 3) ⊎ ((n ≡ 4) ⊎ (n ≡ 5))) (member_tag c.args.property) c.in_default.in_default-own.keys3)).1))
     stay
 
 pub repeat-expr-requires : goal.repeat-expr-requires
 repeat-expr-requires t c =
-    (falls_to (size c.args.recs.now) c.args.r _ 12 7 t c.decreases (lit< tt) (child1 c.args.recs.now c.first-body.ensures), tt)
+    (falls_to (size c.args.tree.now.records.now) c.args.r _ 12 7 t c.decreases (lit< tt) (child1 c.args.tree.now.records.now c.first-body.ensures), tt)
 
 pub repeat-returns : goal.repeat-returns
 unfolding does doing exec
@@ -1220,8 +1190,8 @@ repeat-returns t c =
           let h3 = given (behind _ c.args.r A) (begun c.args.r _ _ _ l h2 c.begin_loop.ensures) in
           let h4 = placed c.args.r _ refl l c.push_label.ensures h3 in
           let h5 = visited z Expr c.first-body.ensures c.expr.ensures h4 in
-          let i1 = said c.args.r Pop 0 refl refl c.push_pop.ensures h5 in
-          let i2 = backed c.args.r _ refl l c.push_jump_back_edge.ensures i1 in
+          let i1 = said c.args.r Pop 0 refl refl c.push_op.ensures h5 in
+          let i2 = backed c.args.r _ refl l c.push_op-2.ensures i1 in
           let i3 = placed c.args.r _ refl m c.push_label-2.ensures i2 in
           let i4 = nulled c.args.r c.push_null.ensures i3 in
           finished c.end_loop.ensures i4;
@@ -1229,7 +1199,7 @@ repeat-returns t c =
 
 pub rest-expr-requires : goal.rest-expr-requires
 rest-expr-requires t c = (
-  falls_to (size c.args.recs.now) c.args.r _ 12 9 t c.decreases (lit< tt) (linked_nth c.args.recs.now c.args.r c.p.result
+  falls_to (size c.args.tree.now.records.now) c.args.r _ 12 9 t c.decreases (lit< tt) (linked_nth c.args.tree.now.records.now c.args.r c.p.result
       c.first.ensures c.nth-body.ensures),
   tt,
 )
@@ -1237,70 +1207,69 @@ rest-expr-requires t c = (
 pub rest-returns-then-detail-eq-DO : goal.rest-returns-then-detail-eq-DO
 unfolding does doing exec own_stream
 rest-returns-then-detail-eq-DO t c =
-    resim (λ v z A. last_by (lent c.args.recs.now c.args.notes.now) v c.args.r (sym c.kind.ensures ∙ c.in-30.is) A)
-    (resim (λ v z A. either_yes (lent c.args.recs.now c.args.notes.now) v c.args.r _ _ _ A (eq-eqb _ 2 (sym c.detail.ensures ∙ c.if-detail-eq-DO.true)))
+    resim (λ v z A. last_by (lent c.args.tree.now) v c.args.r (sym c.kind.ensures ∙ c.in-30.is) A)
+    (resim (λ v z A. either_yes (lent c.args.tree.now) v c.args.r _ _ _ A (eq-eqb _ 2 (sym c.detail.ensures ∙ c.if-detail-eq-DO.true)))
     (record {
       sim = λ z v o₀ A h.
           let h1 = c.inner.ensures.sim z v o₀ A h in
-          let h2 = function_loaded c.args.r (word c.args.recs.now c.args.r 2) c.function_id-function_id.ensures c.push_load_const.ensures h1
+          let h2 = function_loaded c.args.r (word c.args.tree.now.records.now c.args.r 2) c.function_id-function_id.ensures c.push_load_const.ensures h1
           in
-          said c.args.r Call 0 refl refl c.push_call.ensures h2;
+          said c.args.r Call 0 refl refl c.push_op.ensures h2;
     }))
 
 pub rest-returns-else-detail-eq-DO : goal.rest-returns-else-detail-eq-DO
 unfolding does doing exec own_stream
 rest-returns-else-detail-eq-DO t c =
-    resim (λ v z A. last_by (lent c.args.recs.now c.args.notes.now) v c.args.r (sym c.kind.ensures ∙ c.in-30.is) A)
-    (resim (λ v z A. either_no (lent c.args.recs.now c.args.notes.now) v c.args.r _ _ _ A (ne_eqb _ 2 (λ e. c.if-detail-eq-DO.false (c.detail.ensures ∙ e))))
+    resim (λ v z A. last_by (lent c.args.tree.now) v c.args.r (sym c.kind.ensures ∙ c.in-30.is) A)
+    (resim (λ v z A. either_no (lent c.args.tree.now) v c.args.r _ _ _ A (ne_eqb _ 2 (λ e. c.if-detail-eq-DO.false (c.detail.ensures ∙ e))))
     (record {
       sim = λ z v o₀ A h.
           let h1 = c.inner.ensures.sim z v o₀ A h in
-          let h2 = function_loaded c.args.r (word c.args.recs.now c.args.r 2) c.function_id-function_id.ensures c.push_load_const.ensures h1
+          let h2 = function_loaded c.args.r (word c.args.tree.now.records.now c.args.r 2) c.function_id-function_id.ensures c.push_load_const.ensures h1
           in
           h2;
     }))
 
 pub rest-returns-in-31 : goal.rest-returns-in-31
 rest-returns-in-31 t c =
-    resim (λ v z A. last_by (lent c.args.recs.now c.args.notes.now) v c.args.r (sym c.kind.ensures ∙ c.in-31.is) A)
-    (c.params.ensures _)
+    resim (λ v z A. last_by (lent c.args.tree.now) v c.args.r (sym c.kind.ensures ∙ c.in-31.is) A)
+    c.params.ensures
 
 pub rest-returns-in-32 : goal.rest-returns-in-32
 rest-returns-in-32 t c =
-    resim (λ v z A. last_by (lent c.args.recs.now c.args.notes.now) v c.args.r (sym c.kind.ensures ∙ c.in-32.is) A)
+    resim (λ v z A. last_by (lent c.args.tree.now) v c.args.r (sym c.kind.ensures ∙ c.in-32.is) A)
     (c.catch.ensures.catches (sym c.kind.ensures ∙ c.in-32.is))
 
 pub rest-returns-in-33 : goal.rest-returns-in-33
 unfolding does doing exec
 rest-returns-in-33 t c =
-    resim (λ v z A. last_by (lent c.args.recs.now c.args.notes.now) v c.args.r (sym c.kind.ensures ∙ c.in-33.is) A)
+    resim (λ v z A. last_by (lent c.args.tree.now) v c.args.r (sym c.kind.ensures ∙ c.in-33.is) A)
     (record {
       sim = λ z v o₀ A h.
-          visited z Expr (c.nth-body.ensures ∙ ap₂ (nth c.args.recs.now) c.p.ensures c.first.ensures) c.expr.ensures h;
+          visited z Expr (c.nth-body.ensures ∙ ap₂ (nth c.args.tree.now.records.now) c.p.ensures c.first.ensures) c.expr.ensures h;
     })
 
 pub rest-returns-in-39 : goal.rest-returns-in-39
 rest-returns-in-39 t c =
-    resim (λ v z A. last_by (lent c.args.recs.now c.args.notes.now) v c.args.r (sym c.kind.ensures ∙ c.in-39.is) A)
+    resim (λ v z A. last_by (lent c.args.tree.now) v c.args.r (sym c.kind.ensures ∙ c.in-39.is) A)
     c.import_item.ensures
 
 pub rest-returns-in_default : goal.rest-returns-in_default
 rest-returns-in_default t c =
-    resim (λ v z A. to_none (lent c.args.recs.now c.args.notes.now) v c.args.r _ c.kind.ensures c.in_default.in_default-own.rest.0.0.0.0.1
+    resim (λ v z A. to_none (lent c.args.tree.now) v c.args.r _ c.kind.ensures c.in_default.in_default-own.rest.0.0.0.0.1
     c.in_default.in_default-own.rest.0.0.0.1 c.in_default.in_default-own.rest.0.0.1 c.in_default.in_default-own.rest.0.1 c.in_default.in_default-own.rest.1 A) stay
 
 pub ret-returns-then-is_in_do : goal.ret-returns-then-is_in_do
 ret-returns-then-is_in_do t c =
     record {
       sim = λ z v o₀ A h.
-          given (ret_barred (lent c.args.recs.now c.args.notes.now) v c.args.r (in_do (words c.args.recs.now c.args.r) z.small
-          c.is_in_do.ensures h ∙ c.if-is_in_do.true) A) (bar_yes (words c.args.recs.now c.args.r) z.small c.is_in_do.ensures h c.if-is_in_do.true c.cut.ensures);
+          given (ret_barred (lent c.args.tree.now) v c.args.r (in_do (words c.args.tree.now.records.now c.args.r) c.is_in_do.ensures h ∙ c.if-is_in_do.true) A) (bar_yes (words c.args.tree.now.records.now c.args.r) c.is_in_do.ensures h c.if-is_in_do.true c.cut.ensures);
     }
 
 pub ret-call-requires : goal.ret-call-requires
 ret-call-requires t c = (
-  falls_child (size c.args.recs.now) c.args.r _ 8 7 t c.decreases (lit< tt) (child1 c.args.recs.now c.first-argument.ensures)
-      (tail_call c.args.recs.now _ (sym c.is_tail.ensures ∙ c.if-is_tail.true)).0,
+  falls_child (size c.args.tree.now.records.now) c.args.r _ 8 7 t c.decreases (lit< tt) (child1 c.args.tree.now.records.now c.first-argument.ensures)
+      (tail_call c.args.tree.now.records.now _ (sym c.is_tail.ensures ∙ c.if-is_tail.true)).0,
   tt,
 )
 
@@ -1308,37 +1277,37 @@ pub ret-returns-then-is_tail : goal.ret-returns-then-is_tail
 ret-returns-then-is_tail t c =
     record {
       sim = λ z v o₀ A h.
-          let h1 = bar_no (words c.args.recs.now c.args.r) z.small c.is_in_do.ensures h c.if-is_in_do.false in
-          let h2 = (c.push_return_label.ensures _ _ c.args.r).moves v o₀ _ h1 in
-          let h3 = visited z Tail c.first-argument.ensures (resim (λ v z A. tail_visit (lent c.args.recs.now c.args.notes.now) v _ (tail_call c.args.recs.now _ (sym
-          c.is_tail.ensures ∙ c.if-is_tail.true)).0 (tail_call c.args.recs.now _ (sym c.is_tail.ensures ∙ c.if-is_tail.true)).1 A) c.call.ensures) h2 in
-          given (ret_tail (lent c.args.recs.now c.args.notes.now) v c.args.r (ap (λ (x : ℕ). is_tail (own_tree (forest c.args.recs.now x))) (sym
+          let h1 = bar_no (words c.args.tree.now.records.now c.args.r) c.is_in_do.ensures h c.if-is_in_do.false in
+          let h2 = (c.push_return_label.ensures _ c.args.r).moves v o₀ _ h1 in
+          let h3 = visited z Tail c.first-argument.ensures (resim (λ v z A. tail_visit (lent c.args.tree.now) v _ (tail_call c.args.tree.now.records.now _ (sym
+          c.is_tail.ensures ∙ c.if-is_tail.true)).0 (tail_call c.args.tree.now.records.now _ (sym c.is_tail.ensures ∙ c.if-is_tail.true)).1 A) c.call.ensures) h2 in
+          given (ret_tail (lent c.args.tree.now) v c.args.r (ap (λ (x : ℕ). is_tail (own_tree (forest c.args.tree.now.records.now x))) (sym
           c.first-argument.ensures) ∙ sym c.is_tail.ensures ∙ c.if-is_tail.true) A) (nulled c.args.r c.push_null.ensures h3);
     }
 
 pub ret-expr-requires : goal.ret-expr-requires
 ret-expr-requires t c =
-    (falls_to (size c.args.recs.now) c.args.r _ 12 7 t c.decreases (lit< tt) (child1 c.args.recs.now c.first-argument.ensures), tt)
+    (falls_to (size c.args.tree.now.records.now) c.args.r _ 12 7 t c.decreases (lit< tt) (child1 c.args.tree.now.records.now c.first-argument.ensures), tt)
 
 pub ret-returns : goal.ret-returns
 ret-returns t c =
     record {
       sim = λ z v o₀ A h.
-          let h1 = bar_no (words c.args.recs.now c.args.r) z.small c.is_in_do.ensures h c.if-is_in_do.false in
-          let h2 = (c.push_return_label.ensures _ _ c.args.r).moves v o₀ _ h1 in
+          let h1 = bar_no (words c.args.tree.now.records.now c.args.r) c.is_in_do.ensures h c.if-is_in_do.false in
+          let h2 = (c.push_return_label.ensures _ c.args.r).moves v o₀ _ h1 in
           let h3 = visited z Expr c.first-argument.ensures c.expr.ensures h2 in
-          let h4 = said c.args.r Return 0 refl refl c.push_return.ensures h3 in
-          given (ret_plain (lent c.args.recs.now c.args.notes.now) v c.args.r (ap (λ (x : ℕ). is_tail (own_tree (forest c.args.recs.now x))) (sym
+          let h4 = said c.args.r Return 0 refl refl c.push_op.ensures h3 in
+          given (ret_plain (lent c.args.tree.now) v c.args.r (ap (λ (x : ℕ). is_tail (own_tree (forest c.args.tree.now.records.now x))) (sym
           c.first-argument.ensures) ∙ sym c.is_tail.ensures ∙ c.if-is_tail.false) A) (nulled c.args.r c.push_null-2.ensures h4);
     }
 
 pub short-fetch-requires : goal.short-fetch-requires
 short-fetch-requires t c =
-    (falls_to (size c.args.recs.now) c.args.r _ 8 5 t c.decreases (lit< tt) (child1 c.args.recs.now c.first-left.ensures), tt)
+    (falls_to (size c.args.tree.now.records.now) c.args.r _ 8 5 t c.decreases (lit< tt) (child1 c.args.tree.now.records.now c.first-left.ensures), tt)
 
 pub short-expr-requires : goal.short-expr-requires
 short-expr-requires t c = (
-  falls_to (size c.args.recs.now) c.args.r _ 12 5 t c.decreases (lit< tt) (child2 c.args.recs.now c.next-right.ensures (child1 c.args.recs.now c.first-left.ensures)),
+  falls_to (size c.args.tree.now.records.now) c.args.r _ 12 5 t c.decreases (lit< tt) (child2 c.args.tree.now.records.now c.next-right.ensures (child1 c.args.tree.now.records.now c.first-left.ensures)),
   tt,
 )
 
@@ -1351,40 +1320,40 @@ short-returns t c =
           let h1 = labelled c.get_label-label.ensures h in
           let h2 = visited z Before c.first-left.ensures c.fetch.ensures h1 in
           let h3 = jumped c.args.r (short_jump c.args.operator) _ refl l c.push_short_jump.ensures h2 in
-          let h4 = visited z Expr (next_of c.args.recs.now c.next-right.ensures c.first-left.ensures) c.expr.ensures h3 in
+          let h4 = visited z Expr (next_of c.args.tree.now.records.now c.next-right.ensures c.first-left.ensures) c.expr.ensures h3 in
           let h5 = placed c.args.r _ refl l c.push_label.ensures h4 in
-          let h6 = visited z After c.first-left.ensures (c.after.ensures _) h5 in
+          let h6 = visited z After c.first-left.ensures c.after.ensures h5 in
           nulled c.args.r c.push_null.ensures h6;
     }
 
 pub table-all-requires : goal.table-all-requires
 table-all-requires t c =
-    (falls_to (size c.args.recs.now) c.args.r _ 13 7 t c.decreases (lit< tt) (child1 c.args.recs.now c.first-properties.ensures), tt)
+    (falls_to (size c.args.tree.now.records.now) c.args.r _ 13 7 t c.decreases (lit< tt) (child1 c.args.tree.now.records.now c.first-properties.ensures), tt)
 
 pub table-returns : goal.table-returns
 unfolding does doing exec
 table-returns t c =
     record {
       sim = λ z v o₀ A h.
-          let w = (c.width-n.ensures ∙ ap (λ (x : ℕ). width (own_tree (forest c.args.recs.now x))) c.first-properties.ensures) in
+          let w = (c.width-n.ensures ∙ ap (λ (x : ℕ). width (own_tree (forest c.args.tree.now.records.now x))) c.first-properties.ensures) in
           let h1 = through_at z w c.first-properties.ensures c.all.ensures h in
-          given (visits_part (lent c.args.recs.now c.args.notes.now) v c.args.r Expr 0 (width (own_tree (children c.args.recs.now
-          c.args.r))) (push_op BuildTable (width (own_tree (children c.args.recs.now c.args.r)) / 2) ∷ []) [] A) (said c.args.r
-          BuildTable _ refl (c.capped.ensures ∙ ap (λ (n : ℕ). cap (n / 2)) w) c.push_build_table.ensures h1);
+          given (visits_part (lent c.args.tree.now) v c.args.r Expr 0 (width (own_tree (children c.args.tree.now.records.now
+          c.args.r))) (push_op BuildTable (width (own_tree (children c.args.tree.now.records.now c.args.r)) / 2) ∷ []) [] A) (said c.args.r
+          BuildTable _ refl (c.capped.ensures ∙ ap (λ (n : ℕ). cap (n / 2)) w) c.push_op.ensures h1);
     }
 
 pub target-returns-then-left-eq0 : goal.target-returns-then-left-eq0
 target-returns-then-left-eq0 t c =
-    resim (λ v z A. absent (lent c.args.recs.now c.args.notes.now) v Target c.if-left-eq0.true A) stay
+    resim (λ v z A. absent (lent c.args.tree.now) v Target c.if-left-eq0.true A) stay
 
 pub target-returns-then-kind-ne-LEFT : goal.target-returns-then-kind-ne-LEFT
 target-returns-then-kind-ne-LEFT t c =
-    resim (λ v z A. target_other (lent c.args.recs.now c.args.notes.now) v c.args.left c.if-left-eq0.false (λ e. c.if-kind-ne-LEFT.true (c.kind.ensures ∙ e)) A) stay
+    resim (λ v z A. target_other (lent c.args.tree.now) v c.args.left c.if-left-eq0.false (λ e. c.if-kind-ne-LEFT.true (c.kind.ensures ∙ e)) A) stay
 
 pub target-returns-then-detail-eq-PLAIN : goal.target-returns-then-detail-eq-PLAIN
 unfolding does doing exec
 target-returns-then-detail-eq-PLAIN t c =
-    resim (λ v z A. target_plain (lent c.args.recs.now c.args.notes.now) v c.args.left c.if-left-eq0.false (sym c.kind.ensures ∙ c.if-kind-ne-LEFT.false) (sym
+    resim (λ v z A. target_plain (lent c.args.tree.now) v c.args.left c.if-left-eq0.false (sym c.kind.ensures ∙ c.if-kind-ne-LEFT.false) (sym
     c.detail.ensures ∙ c.if-detail-eq-PLAIN.true) A)
     (record {
       sim = λ z v o₀ A h.
@@ -1393,7 +1362,7 @@ target-returns-then-detail-eq-PLAIN t c =
 
 pub target-prop-requires : goal.target-prop-requires
 target-prop-requires t c =
-    (falls_rank (size c.args.recs.now) c.args.left 6 8 t c.decreases c.if-left-eq0.false (lit< tt), tt)
+    (falls_rank (size c.args.tree.now.records.now) c.args.left 6 8 t c.decreases c.if-left-eq0.false (lit< tt), tt)
 
 pub target-returns : goal.target-returns
 unfolding does doing exec
@@ -1401,62 +1370,61 @@ target-returns t c =
     record {
       sim = λ z v o₀ A h.
           let h1 = used z c.args.left 0 Get c.first-ident.ensures c.load.ensures h in
-          let h2 = propped z c.args.left (word c.args.recs.now c.args.left 1 - 1) c.left_property-property.ensures c.prop.ensures h1 in
-          let h3 = was_set c.args.left (word c.args.recs.now c.args.left 1 - 1) c.left_property-property.ensures c.push_set.ensures h2 in
-          given (target_member (lent c.args.recs.now c.args.notes.now) v c.args.left c.if-left-eq0.false (sym c.kind.ensures ∙ c.if-kind-ne-LEFT.false) (λ e.
+          let h2 = propped z c.args.left (word c.args.tree.now.records.now c.args.left 1 - 1) c.left_property-property.ensures c.prop.ensures h1 in
+          let h3 = was_set c.args.left (word c.args.tree.now.records.now c.args.left 1 - 1) c.left_property-property.ensures c.push_set.ensures h2 in
+          given (target_member (lent c.args.tree.now) v c.args.left c.if-left-eq0.false (sym c.kind.ensures ∙ c.if-kind-ne-LEFT.false) (λ e.
           c.if-detail-eq-PLAIN.false (c.detail.ensures ∙ e)) A) (used z c.args.left 0 Set c.first-ident.ensures c.store-2.ensures h3);
     }
 
 pub unpack-expr-requires : goal.unpack-expr-requires
 unpack-expr-requires t c = (
-  falls_to (size c.args.recs.now) c.args.r _ 12 7 t c.decreases (lit< tt) (linked_nth c.args.recs.now c.args.r c.p-n.result c.first-left.ensures c.nth-right.ensures),
+  falls_to (size c.args.tree.now.records.now) c.args.r _ 12 7 t c.decreases (lit< tt) (linked_nth c.args.tree.now.records.now c.args.r c.p-n.result c.first-left.ensures c.nth-right.ensures),
   tt,
 )
 
 pub unpack-loop-i-init : goal.unpack-loop-i-init
 unpack-loop-i-init t c =
-    unpacking_start (lent c.args.recs.now c.args.notes.now) c.args.r _ _ _ _ c.first-left.ensures (child1 c.args.recs.now c.first-left.ensures)
+    unpacking_start (lent c.args.tree.now) c.args.r _ _ c.first-left.ensures (child1 c.args.tree.now.records.now c.first-left.ensures)
 
 pub unpack-target-requires : goal.unpack-target-requires
 unpack-target-requires t c =
-    (falls_to (size c.args.recs.now) c.args.r _ 8 7 t c.decreases (lit< tt) c.loop-i.invariant.link, tt)
+    (falls_to (size c.args.tree.now.records.now) c.args.r _ 8 7 t c.decreases (lit< tt) c.loop-i.invariant.link, tt)
 
 pub unpack-loop-i-preserved : goal.unpack-loop-i-preserved
 unpack-loop-i-preserved t c =
-    unpacking_again (lent c.args.recs.now c.args.notes.now) c.args.r _ c.loop-i.invariant c.loop-i-test.true c.next-at.ensures
+    unpacking_again (lent c.args.tree.now) c.args.r _ c.loop-i.invariant c.loop-i-test.true c.next-at.ensures
     (record {
       sim = λ z v o₀ A h.
           let h1 = int_loaded c.args.r _ refl c.push_load_const.ensures h in
-          let h2 = said c.args.r GetItem 0 refl refl c.push_get_item.ensures h1 in
+          let h2 = said c.args.r GetItem 0 refl refl c.push_op.ensures h1 in
           visited z Target refl c.target.ensures h2;
     })
-    (c.target.auto.code ∙ c.push_get_item.auto.code ∙ c.push_load_const.auto.code) (c.target.auto.consts ∙ c.push_load_const.auto.consts)
 
 pub unpack-returns : goal.unpack-returns
 unpack-returns t c =
     record {
       sim = λ z v o₀ A h.
-          let h1 = visited z Expr (c.nth-right.ensures ∙ ap₂ (nth c.args.recs.now) c.p-n.ensures c.first-left.ensures) c.expr.ensures h in
-          let h2 = (c.copies.ensures _ _ c.args.r).moves v o₀ _ h1 in
-          let h3 = (unpacking_end (lent c.args.recs.now c.args.notes.now) c.args.r _ c.loop-i.invariant c.loop-i-test.false).sim z v o₀ _ h2
+          let h1 = visited z Expr (c.nth-right.ensures ∙ ap₂ (nth c.args.tree.now.records.now) c.p-n.ensures c.first-left.ensures) c.expr.ensures h in
+          let h2 = (c.copies.ensures _ c.args.r).moves v o₀ _ h1 in
+          let h3 = (unpacking_end (lent c.args.tree.now) c.args.r _ c.loop-i.invariant c.loop-i-test.false).sim z v o₀ _ h2
           in
-          given (unpack_run (lent c.args.recs.now c.args.notes.now) v c.args.r c.p-n.ensures A) (nulled c.args.r c.push_null.ensures h3);
+          given (unpack_run (lent c.args.tree.now) v c.args.r c.p-n.ensures A) (nulled c.args.r c.push_null.ensures h3);
     }
 
 pub update-returns-then-is_short_assign : goal.update-returns-then-is_short_assign
 update-returns-then-is_short_assign t c =
-    resim (λ v z A. short_run (lent c.args.recs.now c.args.notes.now) v c.args.r c.binary_operator-operator.ensures (sym (short_assign_lem (word
-    c.args.recs.now c.args.r 1) c.binary_operator-operator.ensures (own_tree (children c.args.recs.now c.args.r))) ∙ ap (λ (x :
-    ℕ). short_assign c.binary_operator-operator.result (own_tree (forest c.args.recs.now x))) (sym c.first-left.ensures) ∙ sym c.is_short_assign.ensures ∙
+    resim (λ v z A. short_run (lent c.args.tree.now) v c.args.r c.binary_operator-operator.ensures (sym (short_assign_lem (word
+    c.args.tree.now.records.now c.args.r 1) c.binary_operator-operator.ensures (own_tree (children c.args.tree.now.records.now c.args.r))) ∙ ap (λ (x :
+    ℕ). short_assign c.binary_operator-operator.result (own_tree (forest c.args.tree.now.records.now x))) (sym c.first-left.ensures) ∙ sym c.is_short_assign.ensures ∙
     c.if-is_short_assign.true) A) c.short.ensures
 
 pub update-fetch-requires : goal.update-fetch-requires
 update-fetch-requires t c =
-    (falls_to (size c.args.recs.now) c.args.r _ 8 7 t c.decreases (lit< tt) (child1 c.args.recs.now c.first-left.ensures), tt)
+    (falls_to (size c.args.tree.now.records.now) c.args.r _ 8 7 t c.decreases (lit< tt) (child1 c.args.tree.now.records.now c.first-left.ensures), tt)
 
 pub update-expr-requires : goal.update-expr-requires
 update-expr-requires t c = (
-  falls_to (size c.args.recs.now) c.args.r _ 12 7 t c.decreases (lit< tt) (child2 c.args.recs.now c.next-right.ensures (child1 c.args.recs.now c.first-left.ensures)),
+  falls_to (size c.args.tree.now.records.now) c.args.r _ 12 7 t c.decreases (lit< tt) (child2 c.args.tree.now.records.now c.next-right.ensures (child1 c.args.tree.now.records.now c.first-left.ensures)),
   tt,
 )
 
@@ -1465,22 +1433,22 @@ update-returns t c =
     record {
       sim = λ z v o₀ A h.
           let h1 = visited z Before c.first-left.ensures c.fetch.ensures h in
-          let h2 = visited z Expr (next_of c.args.recs.now c.next-right.ensures c.first-left.ensures) c.expr.ensures h1 in
-          let h3 = operated (word c.args.recs.now c.args.r 1) c.binary_operator-operator.ensures c.args.r c.push_binary.ensures h2 in
-          let h4 = visited z After c.first-left.ensures (c.after.ensures _) h3 in
-          given (update_run (lent c.args.recs.now c.args.notes.now) v c.args.r (sym (short_assign_lem (word c.args.recs.now c.args.r 1)
-          c.binary_operator-operator.ensures (own_tree (children c.args.recs.now c.args.r))) ∙ ap (λ (x : ℕ). short_assign c.binary_operator-operator.result
-          (own_tree (forest c.args.recs.now x))) (sym c.first-left.ensures) ∙ sym c.is_short_assign.ensures ∙ c.if-is_short_assign.false) A) (nulled c.args.r
+          let h2 = visited z Expr (next_of c.args.tree.now.records.now c.next-right.ensures c.first-left.ensures) c.expr.ensures h1 in
+          let h3 = operated (word c.args.tree.now.records.now c.args.r 1) c.binary_operator-operator.ensures c.args.r c.push_binary.ensures h2 in
+          let h4 = visited z After c.first-left.ensures c.after.ensures h3 in
+          given (update_run (lent c.args.tree.now) v c.args.r (sym (short_assign_lem (word c.args.tree.now.records.now c.args.r 1)
+          c.binary_operator-operator.ensures (own_tree (children c.args.tree.now.records.now c.args.r))) ∙ ap (λ (x : ℕ). short_assign c.binary_operator-operator.result
+          (own_tree (forest c.args.tree.now.records.now x))) (sym c.first-left.ensures) ∙ sym c.is_short_assign.ensures ∙ c.if-is_short_assign.false) A) (nulled c.args.r
           c.push_null.ensures h4);
     }
 
 pub whilst-expr-requires : goal.whilst-expr-requires
 whilst-expr-requires t c =
-    (falls_to (size c.args.recs.now) c.args.r _ 12 7 t c.decreases (lit< tt) (child1 c.args.recs.now c.first-test.ensures), tt)
+    (falls_to (size c.args.tree.now.records.now) c.args.r _ 12 7 t c.decreases (lit< tt) (child1 c.args.tree.now.records.now c.first-test.ensures), tt)
 
 pub whilst-expr-requires-2 : goal.whilst-expr-requires-2
 whilst-expr-requires-2 t c = (
-  falls_to (size c.args.recs.now) c.args.r _ 12 7 t c.decreases (lit< tt) (child2 c.args.recs.now c.next-body.ensures (child1 c.args.recs.now c.first-test.ensures)),
+  falls_to (size c.args.tree.now.records.now) c.args.r _ 12 7 t c.decreases (lit< tt) (child2 c.args.tree.now.records.now c.next-body.ensures (child1 c.args.tree.now.records.now c.first-test.ensures)),
   tt,
 )
 
@@ -1496,10 +1464,10 @@ whilst-returns t c =
           let h3 = given (behind _ c.args.r A) (begun c.args.r _ _ _ l h2 c.begin_loop.ensures) in
           let h4 = placed c.args.r _ refl l c.push_label.ensures h3 in
           let h5 = visited z Expr c.first-test.ensures c.expr.ensures h4 in
-          let h6 = jumped c.args.r PopJumpIfFalse _ refl m c.push_pop_jump_if_false.ensures h5 in
-          let h7 = visited z Expr (next_of c.args.recs.now c.next-body.ensures c.first-test.ensures) c.expr-2.ensures h6 in
-          let i1 = said c.args.r Pop 0 refl refl c.push_pop.ensures h7 in
-          let i2 = backed c.args.r _ refl l c.push_jump_back_edge.ensures i1 in
+          let h6 = jumped c.args.r PopJumpIfFalse _ refl m c.push_op.ensures h5 in
+          let h7 = visited z Expr (next_of c.args.tree.now.records.now c.next-body.ensures c.first-test.ensures) c.expr-2.ensures h6 in
+          let i1 = said c.args.r Pop 0 refl refl c.push_op-2.ensures h7 in
+          let i2 = backed c.args.r _ refl l c.push_op-3.ensures i1 in
           let i3 = placed c.args.r _ refl m c.push_label-2.ensures i2 in
           let i4 = nulled c.args.r c.push_null.ensures i3 in
           finished c.end_loop.ensures i4;

@@ -1,22 +1,25 @@
 use Rattle.codegen.proofs.AnswerLaws.{table_checked, space_checked, rows_checked}
 use Rattle.codegen.proofs.call.check.Goals as goal
 
-pub returns-in-At : goal.returns-in-At
-returns-in-At c =
+pub returns-in-Some : goal.returns-in-Some
+returns-in-Some c =
     let a = c.args in
-    table_checked a.strings.now a.bytes.now a.symbols.now a.references.now a.functions.now a.members.now a.records.now a.markers
-    a.constants a.named a.errors a.lines _ _ c.lent.ensures c.in-At.is
+    let t = a.tables.now in
+    table_checked t.strings.now t.bytes.now t.symbols.now t.references.now t.functions.now t.members.now t.records.now a.markers
+    a.constants a.named a.errors a.lines _ _ c.lent.ensures c.in-Some.is
 
-pub returns-in-At-space : goal.returns-in-At-space
-returns-in-At-space c =
+pub returns-in-Some-space : goal.returns-in-Some-space
+returns-in-Some-space c =
     let a = c.args in
-    space_checked a.strings.now a.bytes.now a.symbols.now a.references.now a.functions.now a.members.now a.records.now a.markers
+    let t = a.tables.now in
+    space_checked t.strings.now t.bytes.now t.symbols.now t.references.now t.functions.now t.members.now t.records.now a.markers
     a.constants a.named a.errors a.lines _ c.lent.ensures c.in_default.is _ c.size-n.ensures _ c.space.ensures _
-    c.in-At-space.is
+    c.in-Some-space.is
 
 pub returns : goal.returns
 returns c =
     let a = c.args in
-    rows_checked a.strings.now a.bytes.now a.symbols.now a.references.now a.functions.now a.members.now a.records.now a.markers
+    let t = a.tables.now in
+    rows_checked t.strings.now t.bytes.now t.symbols.now t.references.now t.functions.now t.members.now t.records.now a.markers
     a.constants a.named a.errors a.lines _ c.lent.ensures c.in_default.is _ c.size-n.ensures _ c.space.ensures
     c.in_default-space.is _ c.rows.ensures

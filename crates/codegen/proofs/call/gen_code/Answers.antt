@@ -3,12 +3,12 @@ use Rattle.codegen.specs.Call.{written_of}
 use mathlib.Core.Path.{◌∙◌, refl}
 use Rattle.codegen.proofs.call.gen_code.Goals as goal
 
-pub returns-in-Refused : goal.returns-in-Refused
+pub returns-in-Err : goal.returns-in-Err
 unfolding written_of
-returns-in-Refused c =
+returns-in-Err c =
     record {
       answer = refused_answer c.args.strings.now c.args.bytes.now c.args.symbols.now c.args.references.now c.args.functions.now c.args.members.now
-          c.args.records.now _ _ _ _ _ _ _ c.check.ensures c.in-Refused.is;
+          c.args.records.now _ _ _ _ _ _ _ c.check.ensures c.in-Err.is;
       markers = refl;
       constants = refl;
       names = refl;

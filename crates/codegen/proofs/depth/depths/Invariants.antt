@@ -9,7 +9,3 @@ use Rattle.codegen.proofs.depth.depths.Given as goal
 abbrev pub invariant-loop-r : goal.invariant-loop-r
 invariant-loop-r l =
     Done l.recs l.table l.r × (l.r ≤ size l.recs) × (length l.table ≡ length l.initial.table)
-
-abbrev pub decreases-loop-r : goal.decreases-loop-r
-decreases-loop-r l =
-    l.r

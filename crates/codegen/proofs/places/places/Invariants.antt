@@ -1,4 +1,3 @@
-use Prim.Native.Nat.{◌-◌, ◌≤◌}
 use Rattle.codegen.proofs.PlacesLaws.{Laid}
 use lib.ListN.{length}
 use Rattle.codegen.proofs.places.places.Given as goal
@@ -6,8 +5,4 @@ use Rattle.codegen.proofs.places.places.Given as goal
 -- The invariant: the Functions before record r have their places. Assumes nothing.
 abbrev pub invariant-loop-r : goal.invariant-loop-r
 invariant-loop-r l =
-    (l.r ≤ l.n) × Laid l.recs (length l.initial.table) l.r l.table
-
-abbrev pub decreases-loop-r : goal.decreases-loop-r
-decreases-loop-r l =
-    l.n - l.r
+    Laid l.recs (length l.initial.table) l.r l.table

@@ -1,7 +1,9 @@
+use mathlib.Core.Path.{refl}
+use borrow.Author.Rules.{rules}
 use Rattle.codegen.proofs.WalkLaws.{stream_walked}
 use Rattle.codegen.proofs.walks.stream.Goals as goal
 
 pub returns : goal.returns
 returns c =
-    let a = c.args in
-    stream_walked a.notes.now a.recs.now a.r _ _ _ _ _ a.frame.now _ _ c.requires.sized c.start_consts.ensures.words c.begin.ensures c.body.ensures c.requires.scoped
+    let a = c.args.tree.now in
+    stream_walked a.notes.now a.records.now c.args.r c.start_consts.ensures.words refl c.body.ensures c.requires (search rules) (search rules)

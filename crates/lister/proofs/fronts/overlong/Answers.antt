@@ -6,5 +6,5 @@ use Rattle.lister.proofs.fronts.overlong.Goals as goal
 
 pub overflow_add-result : goal.overflow_add-result
 overflow_add-result c =
-    let e = c.feeds.ensures ∙ ap feeds c.front_bytes.ensures in
+    let e = c.feeds.ensures ∙ ap feeds c.front.ensures in
     next_fits c.feeds.result (subst (λ (n : ℕ). n ≤ 262143) (sym e) (front_few 262143 c.args.text.now))

@@ -1,19 +1,17 @@
-use Rattle.listing.proofs.PrintLaws.{join, as_text, function_text_lem}
+use Rattle.std.proofs.Common.{rules}
+use Rattle.listing.specs.Print.{code_at, const_at}
+use Rattle.listing.proofs.WriterLaws.{on, same}
+use Rattle.listing.proofs.PrintLaws.{function_text_lem}
 use Rattle.listing.proofs.print.function_rows.Goals as goal
 
 pub returns : goal.returns
-returns c = as_text (join (join (join (join c.head_row-a.ensures
-    c.loops_row-b.ensures)
-    c.codes-c.ensures)
-    c.consts-d.ensures)
+returns c =
+    let a = c.args in
+    let s = a.s.now in
+    let e = c.first_line-l.ensures in
+    same _ _ _ (function_text_lem a.function s.symbols.now s.records.now s.lines.now s.markers.now s.constants.now s.names.now _ _ _ _ _ _
+    e.depth e.markers e.constants e.locals e.globals e.upvalues)
+    (on _ _ _ _ (on _ _ _ _ (on _ _ _ _ (on _ _ _ _ c.head_row.ensures c.loops_row.ensures)
+    (c.rows.ensures (code_at a.function s.markers.now) (λ i u v h. search rules)))
+    (c.rows-2.ensures (const_at a.function s.constants.now) (λ i u v h. search rules)))
     c.names_rows.ensures)
-    (function_text_lem c.args.function
-    c.args.symbols.now
-    c.args.recs.now
-    c.args.line.now
-    c.args.markers.now
-    c.args.constants.now
-    c.args.names.now _ _ _ _ _ _
-    c.entry-depth.ensures c.entry-count.ensures
-    c.entry-held.ensures c.entry-locals.ensures
-    c.entry-globals.ensures c.entry-captured.ensures)

@@ -1,26 +1,17 @@
-use mathlib.Core.Path.{ap, ◌∙◌}
-use mathlib.Core.List.{List}
-use Prim.Native.Nat.{ℕ, ◌-◌, ◌*◌}
-use native.Mathlib.Omega.{arith}
-use lib.ListN.{length, take, drop}
-use Rattle.listing.proofs.PrintLaws.{join, as_text, names_is, part_is, skipped}
+use Rattle.std.proofs.Common.{rules}
+use Rattle.opcode.specs.Names.{bytes}
+use Rattle.listing.specs.Print.{plain_at, upvalue_at}
+use Rattle.listing.proofs.WriterLaws.{on, same}
+use Rattle.listing.proofs.PrintLaws.{names_is}
 use Rattle.listing.proofs.print.names_rows.Goals as goal
 
 pub returns : goal.returns
-returns c = let a = c.args in as_text (join (join c.plains-a.ensures
-    c.plains-b.ensures)
-    c.upvalues.ensures)
-    (names_is a.function a.symbols.now a.names.now a.locals a.globals a.captured (take (length a.names.now -
-    c.skip-i.result) (drop
-    c.skip-i.result a.names.now))
-    (take (length a.names.now - c.skip-j.result) (drop
-    c.skip-j.result a.names.now))
-    (part_is a.names.now c.skip-i.result (length
-    a.names.now - c.skip-i.result) (omega arith) ∙
-    (skipped a.names.now 0 c.skip-i.result
-    (a.locals * 3) c.skip-i.ensures))
-    (part_is a.names.now c.skip-j.result (length a.names.now -
-    c.skip-j.result) (omega arith)
-    ∙ skipped a.names.now c.skip-i.result
-    c.skip-j.result (a.globals * 3) c.skip-j.ensures
-    ∙ ap (λ (l : List ℕ). drop (a.globals * 3) l) (skipped a.names.now 0 c.skip-i.result (a.locals * 3) c.skip-i.ensures)))
+returns c =
+    let a = c.args in
+    let f = a.function in
+    let s = a.symbols.now in
+    same _ _ _ (names_is f s a.names.now a.l.locals a.l.globals a.l.upvalues _ _ c.skip-left.ensures c.skip-last.ensures)
+    (on _ _ _ _ (on _ _ _ _
+    (c.rows.ensures (plain_at f (bytes "local") s a.names.now) (λ i u v h. search rules))
+    (c.rows-2.ensures (plain_at f (bytes "global") s c.skip-left.result.now) (λ i u v h. search rules)))
+    (c.rows-3.ensures (upvalue_at f c.skip-last.result.now) (λ i u v h. search rules)))

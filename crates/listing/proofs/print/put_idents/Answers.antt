@@ -1,35 +1,35 @@
-use mathlib.Core.Path.{◌∙◌}
+use mathlib.Core.Path.{sym, ap, ◌∙◌}
+use mathlib.Core.List.{List, [], ◌∷◌, ◌++◌}
+use Prim.Native.Nat.{ℕ, ◌-◌, ◌+◌}
 use native.Mathlib.Omega.{arith}
-use Rattle.listing.proofs.PrintLaws.{join, rest_same, rest_after, rest_last, rest_none, idents_none, idents_last, idents_more}
+use Rattle.tables.specs.Record.{size}
+use Rattle.listing.specs.Print.{after, decimal, idents}
+use Rattle.listing.proofs.WriterLaws.{left_next, left_none, on}
+use Rattle.listing.proofs.PrintLaws.{idents_none, idents_last, idents_more}
 use Rattle.listing.proofs.print.put_idents.Goals as goal
 
-pub returns-then-n-eq0 : goal.returns-then-n-eq0
-returns-then-n-eq0 c = rest_last (rest_same (idents_last c.loop-left.left
-    c.args.recs.now
-    c.args.detail
-    c.loop-left.r c.q-string.result
-    c.next-n.result (omega arith) c.q-string.ensures
-    c.next-n.ensures c.if-n-eq0.true)
-    c.loop-left.invariant.1)
+pub returns-then-r-eq0 : goal.returns-then-r-eq0
+returns-then-r-eq0 c =
+    let a = c.args in
+    let l = c.loop-i in
     c.last_param.ensures
+    ∙ sym (l.invariant ∙ ap (λ (ts : List ℕ). after ts l.w)
+    (idents_last (c.size-i-end.result - l.i) a.recs.now a.detail l.r _ _ (omega arith) c.q-string.ensures c.next-r.ensures c.if-r-eq0.true))
 
-pub loop-left-preserved : goal.loop-left-preserved
-loop-left-preserved c = (
-  c.put-to.auto.out ∙ c.number-to.auto.out
-      ∙ c.loop-left.invariant.0,
-  rest_after (rest_same (idents_more c.loop-left.left
-      c.args.recs.now
-      c.args.detail
-      c.loop-left.r
-      c.q-string.result
-      c.next-n.result (omega arith)
-      c.q-string.ensures
-      c.next-n.ensures
-      c.if-n-eq0.false)
-      c.loop-left.invariant.1)
-      (join c.number-to.ensures c.put-to.ensures),
-)
+pub loop-i-preserved : goal.loop-i-preserved
+loop-i-preserved c =
+    let a = c.args in
+    let l = c.loop-i in
+    let n = c.size-i-end.result in
+    let s = c.q-string.result in
+    let all = idents (size a.recs.now) a.recs.now a.detail a.from in
+    left_next all (decimal s ++ (44 ∷ [])) _ l.w a.w.now
+    (l.invariant ∙ ap (λ (ts : List ℕ). after ts l.w)
+    (idents_more (n - l.i) (n - (l.i + 1)) a.recs.now a.detail l.r s _ (omega arith) c.q-string.ensures c.next-r.ensures c.if-r-eq0.false))
+    (on _ _ _ _ c.number.ensures c.put.ensures)
 
 pub returns : goal.returns
-returns c = rest_none (rest_same (idents_none c.loop-left.left c.args.recs.now
-    c.args.detail c.loop-left.r (omega arith)) c.loop-left.invariant.1)
+returns c =
+    let a = c.args in
+    let l = c.loop-i in
+    left_none _ _ (l.invariant ∙ ap (λ (ts : List ℕ). after ts l.w) (idents_none (c.size-i-end.result - l.i) a.recs.now a.detail l.r (omega arith)))

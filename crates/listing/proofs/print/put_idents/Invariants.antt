@@ -1,13 +1,7 @@
-use mathlib.Core.Path.{◌≡◌}
-use lib.ListN.{length}
+use Rattle.std.proofs.Common.{◌≡◌, ◌-◌}
 use Rattle.tables.specs.Record.{size}
-use Rattle.listing.proofs.PrintLaws.{Rest}
-use Rattle.listing.specs.Print.{wrote, idents}
+use Rattle.listing.specs.Print.{after, idents}
 use Rattle.listing.proofs.print.put_idents.Given as goal
 
-abbrev pub invariant-loop-left : goal.invariant-loop-left
-invariant-loop-left l = (length l.out ≡ length l.initial.out) × Rest (idents l.left l.recs l.detail l.r) l.out l.to (wrote (idents
-    (size l.recs) l.recs l.detail l.from) l.initial.out l.at)
-
-abbrev pub decreases-loop-left : goal.decreases-loop-left
-decreases-loop-left l = l.left
+abbrev pub invariant-loop-i : goal.invariant-loop-i
+invariant-loop-i l = after (idents (size l.recs) l.recs l.detail l.from) l.initial.w ≡ after (idents (l.i-end - l.i) l.recs l.detail l.r) l.w

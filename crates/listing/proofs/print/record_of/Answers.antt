@@ -1,26 +1,20 @@
-use mathlib.Core.Path.{sym, ◌∙◌}
+use mathlib.Core.Path.{refl, sym, ap, ◌∙◌}
+use Rattle.std.proofs.Common.{rules}
+use borrow.Author.Tests.{tests}
 use native.Mathlib.Omega.{arith}
-use Rattle.listing.proofs.PrintLaws.{record_start, record_hit, record_miss, record_none}
-use Rattle.listing.specs.Print.{record_of}
+use Rattle.std.specs.Option.{unwrap_or}
+use Rattle.std.proofs.lemmas.Iterator.{YieldsList-from_range}
+use Rattle.std.proofs.lemmas.Iterator.Adapters.{option_map_id}
+use Rattle.std.proofs.lemmas.Iterator.Search.{find_from_yields_List}
+use Rattle.tables.specs.Record.{size}
+use Rattle.listing.specs.Print.{is_function, record_of}
+use Rattle.listing.proofs.PrintLaws.{record_found}
 use Rattle.listing.proofs.print.record_of.Goals as goal
 
-pub loop-r-init : goal.loop-r-init
-unfolding record_of
-loop-r-init c = (omega arith, record_start c.args.recs.now c.args.n c.size-count.result c.size-count.ensures)
-
-pub returns-then-is_function : goal.returns-then-is_function
-returns-then-is_function c = sym (record_hit c.args.recs.now c.args.n
-    c.size-count.result c.loop-r.r (omega arith) c.is_function.ensures c.if-is_function.true)
-    ∙ c.loop-r.invariant.1
-
-pub loop-r-preserved : goal.loop-r-preserved
-loop-r-preserved c = (
-  omega arith,
-  sym (record_miss c.args.recs.now
-      c.args.n c.size-count.result c.loop-r.r
-      (omega arith) c.is_function.ensures c.if-is_function.false) ∙ c.loop-r.invariant.1,
-)
-
 pub returns : goal.returns
-returns c = sym (record_none c.args.recs.now c.args.n
-    c.size-count.result c.loop-r.r (omega arith)) ∙ c.loop-r.invariant.1
+unfolding record_of
+returns c =
+    let a = c.args in
+    let e = find_from_yields_List (is_function a.recs.now a.n) _ _ c.find.result c.find.ensures.ran
+    (YieldsList-from_range 0 c.size.result (size a.recs.now) refl (omega arith)) (λ x b q k. search (rules, tests)) in
+    c.unwrap_or.ensures ∙ ap (λ o. unwrap_or o 0) (sym (option_map_id c.find.result) ∙ e) ∙ record_found a.recs.now a.n (size a.recs.now) 0

@@ -1,12 +1,7 @@
-use mathlib.Core.Path.{refl}
-use Rattle.listing.proofs.PrintLaws.{join, as_text}
 use Rattle.listing.specs.Print.{refusal_text}
+use Rattle.listing.proofs.WriterLaws.{on}
 use Rattle.listing.proofs.print.refusal.Goals as goal
 
 pub returns : goal.returns
 unfolding refusal_text
-returns c = as_text (join (join (join (join c.text-a.ensures
-    c.number-b.ensures)
-    c.put-c.ensures)
-    c.number-d.ensures)
-    c.put.ensures) refl
+returns c = on _ _ _ _ (on _ _ _ _ (on _ _ _ _ (on _ _ _ _ c.text.ensures c.number.ensures) c.put.ensures) c.number-2.ensures) c.put-2.ensures

@@ -1,38 +1,37 @@
-use mathlib.Core.Path.{refl, sym, ◌∙◌}
-use Prim.Native.Nat.{◌+◌, ◌*◌}
-use native.Mathlib.Omega.{arith}
-use lib.ListN.{drop}
-use borrow.Author.Tests.{not-true}
+use Rattle.std.proofs.Common.{refl, sym, ◌∙◌, arith}
 use Rattle.listing.specs.Read.{value_of}
-use Rattle.listing.proofs.ReadLaws.{all_off, all_end, value_on, value_end, value_above, decimal_none, decimal_off, decimal_large, decimal_value}
-use mathlib.Core.Path.{ap}
-use mathlib.Core.Bool.{not}
+use Rattle.listing.proofs.ReadLaws.{all_off, all_end, value_end, value_past, decimal_none, decimal_off, decimal_large, decimal_value}
 use Rattle.listing.proofs.read.decimal.Goals as goal
 
-pub returns-then-digits-eq0 : goal.returns-then-digits-eq0
-returns-then-digits-eq0 c = sym (decimal_none _ c.if-digits-eq0.true)
+pub returns-then-is_empty : goal.returns-then-is_empty
+returns-then-is_empty c = sym (decimal_none _ (grind arith))
 
-pub loop-i-init : goal.loop-i-init
+pub loop-b-init : goal.loop-b-init
 unfolding value_of
-loop-i-init c = (omega arith, omega arith, refl, refl)
+loop-b-init c = (omega arith, refl, refl)
 
-pub returns-then-not-is_digit : goal.returns-then-not-is_digit
-returns-then-not-is_digit c =
+pub returns-then-not-is_ascii_digit : goal.returns-then-not-is_ascii_digit
+returns-then-not-is_ascii_digit c =
     let l = c.args.digits.now in
-    let p = c.loop-i in
-    sym (decimal_off l (sym p.invariant.2 ∙ all_off l p.i (omega arith) (sym c.is_digit.ensures ∙ not-true _ (ap not c.if-not-is_digit.true))))
+    let p = c.loop-b in
+    sym (decimal_off l (sym p.invariant.1 ∙ all_off l p.b-index (omega arith) (sym c.if-not-is_ascii_digit.ensures.value)))
 
-pub returns-then-value-gt-MOST : goal.returns-then-value-gt-MOST
-returns-then-value-gt-MOST c =
+pub returns-in_err-checked_mul : goal.returns-in_err-checked_mul
+returns-in_err-checked_mul c =
     let l = c.args.digits.now in
-    let p = c.loop-i in
-    let q = value_on l p.i p.value c.digit.result (omega arith) c.digit.ensures.0 ∙ p.invariant.3 in
-    let above = value_above (p.value * 10 + c.digit.result) (drop (p.i + 1) l) in
-    sym (decimal_large l (omega (arith, above, q)))
+    let p = c.loop-b in
+    let s = value_past l p.b-index p.value (omega arith) in
+    let e = decimal_large l (omega (arith, s, p.invariant.2)) in grind (arith, e)
+
+pub returns-in_err-value : goal.returns-in_err-value
+returns-in_err-value c =
+    let l = c.args.digits.now in
+    let p = c.loop-b in
+    let s = value_past l p.b-index p.value (omega arith) in
+    let e = decimal_large l (omega (arith, s, p.invariant.2)) in grind (arith, e)
 
 pub returns : goal.returns
 returns c =
     let l = c.args.digits.now in
-    let p = c.loop-i in
-    decimal_value l p.value c.if-digits-eq0.false (sym p.invariant.2 ∙ all_end l p.i (omega arith)) (omega arith) (sym (value_end l p.i p.value
-    (omega arith)) ∙ p.invariant.3)
+    let p = c.loop-b in
+    decimal_value l p.value (grind arith) (sym p.invariant.1 ∙ all_end l p.b-index (omega arith)) (omega arith) (sym (value_end l p.b-index p.value (omega arith)) ∙ p.invariant.2)

@@ -1,66 +1,40 @@
-use mathlib.Core.Option.{some}
-use mathlib.Core.Path.{◌≡◌, refl, sym, ap, ◌∙◌}
-use Prim.Native.Nat.{ℕ, ◌+◌, ◌-◌}
-use native.Mathlib.Omega.{arith}
-use lib.ListN.{take, length-set, drop}
+use Rattle.std.proofs.Common.{refl, sym, ap, ◌∙◌, ◌≡◌, ◌+◌, arith, List, ℕ, take, set}
+use lib.Dec.{eqb}
+use lib.ListN.{length-set}
+use lib.Pointwise.{pointwise}
 use lib.Seq.{drop-set-lt}
-use borrow.Author.Rules.{rules}
-use Rattle.listing.specs.Read.{pairs_of}
-use Rattle.listing.proofs.ReadLaws.{joined, joined_none, agree_on}
-use Rattle.listing.proofs.TextLaws.{string_dash, string_pairs, text_again, text_odd, text_full, text_before, never}
+use Rattle.listing.specs.Read.{is_dash, pairs_of}
+use Rattle.listing.proofs.ReadLaws.{joined, string_dash, string_pairs, dash_eq, joined_none, next_byte, no_byte, no_room, never, rest_of, agree_on}
 use Rattle.listing.proofs.read.hexadecimal.Goals as goal
 
-pub returns-then-is_dash : goal.returns-then-is_dash
-returns-then-is_dash c =
-    let a = c.args in
-    let z : a.from - a.from ≡ 0 = omega arith in (
-      refl,
-      omega arith,
-      omega arith,
-      string_dash a.line.now (sym c.is_dash.ensures ∙ c.if-is_dash.true) ∙ ap (λ (n : ℕ). some (take n (drop a.from
-          a.out.now))) (sym z),
-      refl,
-    )
+pub returns-then-eq : goal.returns-then-eq
+returns-then-eq c =
+    let l = c.args.line.now in
+    let d : is_dash l ≡ c.eq.result = sym (dash_eq l) ∙ ap (pointwise eqb l) (sym c.as_slice.ensures) ∙ sym c.eq.ensures in
+    (omega arith, string_dash l (d ∙ c.if-eq.true), refl)
 
-pub loop-i-init : goal.loop-i-init
-loop-i-init c =
-    let a = c.args in
-    let z : a.from - a.from ≡ 0 = omega arith in (
-      omega arith,
-      omega arith,
-      refl,
-      refl,
-      omega arith,
-      ap (λ (n : ℕ). joined (take n (drop a.from a.out.now)) (pairs_of a.line.now)) z ∙ sym
-          (joined_none _) ∙ string_pairs a.line.now (sym c.is_dash.ensures ∙ c.if-is_dash.false),
-      refl,
-    )
+pub loop-rest-init : goal.loop-rest-init
+loop-rest-init c =
+    let l = c.args.line.now in
+    let d : is_dash l ≡ c.eq.result = sym (dash_eq l) ∙ ap (pointwise eqb l) (sym c.as_slice.ensures) ∙ sym c.eq.ensures in
+    (omega arith, joined_none (pairs_of l) ∙ string_pairs l (d ∙ c.if-eq.false), refl)
 
-pub returns-then-line-i-lt2 : goal.returns-then-line-i-lt2
-returns-then-line-i-lt2 c =
-    let a = c.args in
-    let p = c.loop-i in
-    (p.invariant.3, λ bs e. never _ bs _ _ (text_odd a.line.now p.out a.from p.k p.i _ p.invariant.1 p.invariant.5 (omega arith) (omega arith)) e)
+pub returns-in_err-byte : goal.returns-in_err-byte
+returns-in_err-byte c =
+    let p = c.loop-rest in
+    let w = no_byte p.rest.now p.out p.count _ p.invariant.1 (omega arith) (let g = c.in_err-byte.ensures in sym g) in
+    rw c.from_residual.ensures (λ bs e. never _ bs _ _ w e)
 
-pub returns-then-out-k : goal.returns-then-out-k
-returns-then-out-k c =
-    let a = c.args in
-    let p = c.loop-i in (
-      p.invariant.3,
-      λ bs e. let s = text_full a.line.now p.out a.from p.k p.i _ p.invariant.1 p.invariant.5 (omega arith) (omega arith)
-          (omega arith) bs e in omega arith,
-    )
+pub returns-then-out-count : goal.returns-then-out-count
+returns-then-out-count c =
+    let p = c.loop-rest in
+    λ bs e. let s = no_room p.rest.now p.out p.count _ p.invariant.1 (omega arith) (omega arith) (omega arith) bs e in omega arith
 
-pub loop-i-preserved : goal.loop-i-preserved
-loop-i-preserved c =
-    let a = c.args in
-    let p = c.loop-i in (
-      omega arith,
-      omega arith,
-      length-set p.out _ _ ∙ p.invariant.2,
-      text_before p.out a.from p.k _ p.invariant.1 ∙ p.invariant.3,
-      omega arith,
-      text_again a.line.now p.out a.from p.k p.i _ p.invariant.1 p.invariant.5 _ _ (omega arith) (omega arith)
-          c.pair.ensures (let g = c.in-Byte.known_told-1-own.given in search rules),
-      drop-set-lt (p.k + 1) p.out p.k _ (omega arith) ∙ agree_on p.k 1 p.out a.out.now p.invariant.6,
+pub loop-rest-preserved : goal.loop-rest-preserved
+loop-rest-preserved c =
+    let p = c.loop-rest in (
+      omega (arith, length-set p.out p.count c.in_ok-byte.byte),
+      ap (λ (l : List ℕ). joined (take (p.count + 1) (set p.out p.count c.in_ok-byte.byte)) (pairs_of l)) (rest_of 2 p.rest.now)
+          ∙ next_byte p.rest.now p.out p.count _ p.invariant.1 c.in_ok-byte.byte (omega arith) (omega arith) (let g = c.in_ok-byte.ensures in sym g),
+      drop-set-lt _ p.out p.count c.in_ok-byte.byte (omega arith) ∙ agree_on p.count 1 p.out c.args.out.now p.invariant.2,
     )

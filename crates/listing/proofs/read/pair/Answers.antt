@@ -1,26 +1,19 @@
-use mathlib.Core.Path.{ap₂, ◌≡◌, ◌∙◌}
-use Prim.Native.Nat.{ℕ, ◌+◌, ◌*◌}
-use native.Mathlib.Omega.{arith}
-use Rattle.listing.specs.declared.read.Octet.TheVariants.{Byte}
-use Rattle.listing.specs.Read.{nibble_of}
-use Rattle.listing.proofs.ReadLaws.{pair_good, pair_high, pair_low}
+use Rattle.std.proofs.Common.{◌≡◌, ℕ, arith, Option, Some, None, refl, ap}
+use Rattle.listing.specs.Read.{pair_of, byte_of}
 use Rattle.listing.proofs.read.pair.Goals as goal
 
-pub returns-then-l-lt16 : goal.returns-then-l-lt16
-returns-then-l-lt16 c =
-    let a = c.args in
-    let h : c.nibble-h.result ≡ nibble_of a.high = c.nibble-h.ensures in
-    let l : c.nibble-l.result ≡ nibble_of a.low = c.nibble-l.ensures in
-    ap₂ (λ (x y : ℕ). Byte (x * 16 + y)) h l ∙ pair_good a.high a.low (omega arith) (omega arith)
+byte_low : (h l : Option ℕ) → l ≡ None → byte_of h l ≡ None
+byte_low None l e = refl
+byte_low (Some x) l e = ap (byte_of (Some x)) e
 
-pub returns-else-l-lt16 : goal.returns-else-l-lt16
-returns-else-l-lt16 c =
-    let a = c.args in
-    let l : c.nibble-l.result ≡ nibble_of a.low = c.nibble-l.ensures in
-    pair_low a.high a.low (omega arith)
+pub returns-in_err-nibble : goal.returns-in_err-nibble
+unfolding pair_of
+returns-in_err-nibble c = grind arith
 
-pub returns-else-h-lt16 : goal.returns-else-h-lt16
-returns-else-h-lt16 c =
-    let a = c.args in
-    let h : c.nibble-h.result ≡ nibble_of a.high = c.nibble-h.ensures in
-    pair_high a.high a.low (omega arith)
+pub returns-in_err-nibble-2 : goal.returns-in_err-nibble-2
+unfolding pair_of
+returns-in_err-nibble-2 c = grind (arith, byte_low)
+
+pub returns : goal.returns
+unfolding pair_of
+returns c = grind arith

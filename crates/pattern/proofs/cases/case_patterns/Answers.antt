@@ -2,19 +2,18 @@ use Rattle.pattern.proofs.TestLaws.{case_again, case_done, case_holds, case_shor
 use mathlib.Core.Path.{refl}
 use Rattle.pattern.proofs.cases.case_patterns.Goals as goal
 
-pub loop-i-init : goal.loop-i-init
-loop-i-init c =
-    case_holds c.args.recs.now c.args.notes.now _ _ c.first_child-pattern.ensures
+pub loop-init : goal.loop-init
+loop-init c =
+    case_holds c.args.tree.now.records.now c.args.tree.now.notes.now _ c.first_child-pattern.ensures
 
 pub returns-then-pattern-eq0 : goal.returns-then-pattern-eq0
 returns-then-pattern-eq0 c =
-    case_short c.args.recs.now c.args.notes.now c.loop-i.invariant c.p-n.ensures c.first_child-pattern.ensures c.if-pattern-eq0.true
+    case_short c.args.tree.now.records.now c.args.tree.now.notes.now c.loop.invariant c.p-end.ensures c.first_child-pattern.ensures c.if-pattern-eq0.true
 
-pub loop-i-preserved : goal.loop-i-preserved
-loop-i-preserved c =
-    case_again c.args.recs.now c.args.notes.now c.loop-i.invariant c.loop-i-test.true c.if-pattern-eq0.false c.test.ensures c.next-pattern.ensures refl
-    c.test.auto.code c.test.auto.consts
+pub loop-preserved : goal.loop-preserved
+loop-preserved c =
+    case_again c.args.tree.now.records.now c.args.tree.now.notes.now c.loop.invariant c.loop-test.true c.if-pattern-eq0.false c.test.ensures c.next-pattern.ensures refl
 
 pub returns : goal.returns
 returns c =
-    case_done c.args.recs.now c.args.notes.now c.loop-i.invariant c.p-n.ensures c.first_child-pattern.ensures c.loop-i-test.false
+    case_done c.args.tree.now.records.now c.args.tree.now.notes.now c.loop.invariant c.p-end.ensures c.first_child-pattern.ensures c.loop-test.false

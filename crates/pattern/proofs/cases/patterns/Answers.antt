@@ -4,18 +4,16 @@ use Rattle.pattern.proofs.cases.patterns.Goals as goal
 
 pub loop-case-init : goal.loop-case-init
 loop-case-init c =
-    cases_hold c.args.recs.now c.args.notes.now _ _ _ _
+    cases_hold c.args.tree.now.records.now c.args.tree.now.notes.now _ _ _
 
 pub loop-case-smaller : goal.loop-case-smaller
 loop-case-smaller c =
-    rank_less c.args.recs.now c.loop-case.case _ c.loop-case-test.true c.next-case.ensures
+    rank_less c.args.tree.now.records.now c.loop-case.case _ c.loop-case-test.true c.next-case.ensures
 
 pub loop-case-preserved : goal.loop-case-preserved
 loop-case-preserved c =
-    cases_again c.args.recs.now c.args.notes.now c.loop-case.invariant c.loop-case-test.true c.case_patterns.ensures c.next-case.ensures c.next_label-label.ensures
-    c.case_patterns.auto.code
-    c.case_patterns.auto.consts
+    cases_again c.args.tree.now.records.now c.args.tree.now.notes.now c.loop-case.invariant c.loop-case-test.true c.case_patterns.ensures c.next-case.ensures c.next_label-label.ensures
 
 pub returns : goal.returns
 returns c =
-    cases_done c.args.recs.now c.args.notes.now c.loop-case.invariant c.loop-case-test.false
+    cases_done c.args.tree.now.records.now c.args.tree.now.notes.now c.loop-case.invariant c.loop-case-test.false

@@ -3,5 +3,5 @@ use Rattle.pattern.proofs.cases.test.Goals as goal
 
 pub returns : goal.returns
 returns c =
-    pattern_tests c.args.recs.now c.args.notes.now c.clean_stack-stack.ensures c.push_copy.ensures c.visit_pattern_depth-taken.ensures c.push_pop.ensures c.push_jump.ensures
+    pattern_tests c.args.tree.now.records.now c.args.tree.now.notes.now c.clean_stack-stack.ensures c.push_op.ensures c.visit_pattern_depth-taken.ensures c.push_op-2.ensures c.push_op-3.ensures
     c.clean_up.ensures

@@ -1,11 +1,10 @@
 use Rattle.pattern.proofs.CleanLaws.{clean_again, clean_done}
-use mathlib.Core.Path.{◌∙◌, refl}
+use mathlib.Core.Path.{refl}
 use Rattle.pattern.proofs.clean.clean_up.Goals as goal
 
 pub loop-n-preserved : goal.loop-n-preserved
 loop-n-preserved c =
-    clean_again c.loop-n.invariant c.loop-n-test.true refl c.clean_stack_label.ensures c.push_label.ensures c.push_pop.ensures (c.push_pop.auto.code
-    ∙ c.push_label.auto.code)
+    clean_again c.loop-n.invariant c.loop-n-test.true refl c.clean_stack_label.ensures c.push_label.ensures c.push_op.ensures
 
 pub returns : goal.returns
 returns c =

@@ -1,5 +1,5 @@
-use Rattle.emit.proofs.MarkLaws.{jumped}
-use Rattle.emit.specs.Rep.{lent}
+use Rattle.context.proofs.MarkLaws.{jumped}
+use Rattle.context.specs.Rep.{lent_words}
 use Rattle.plain.proofs.LeafLaws.{used_at}
 use Rattle.rules.specs.Marker.{JumpPopIfNull}
 use Rattle.rules.specs.Step.{Set}
@@ -8,10 +8,10 @@ use Rattle.pattern.proofs.test.ident.Goals as goal
 
 pub returns : goal.returns
 returns c =
-    λ recs consts. record {
+    λ recs. record {
       moves = λ r y e. record {
         moves = λ v o₀ A h.
-            let h1 = jumped r JumpPopIfNull y refl e c.push_jump_pop_if_null.ensures h in
-            used_at (lent recs c.args.notes.now) r Set c.args.pattern c.store.ensures h1;
+            let h1 = jumped r JumpPopIfNull y refl e c.push_op.ensures h in
+            used_at (lent_words recs c.args.tree.now.notes.now) r Set c.args.pattern c.store.ensures h1;
       };
     }

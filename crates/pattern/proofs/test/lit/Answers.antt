@@ -1,4 +1,4 @@
-use Rattle.emit.proofs.MarkLaws.{jumped, said}
+use Rattle.context.proofs.MarkLaws.{jumped, said}
 use Rattle.plain.proofs.LeafLaws.{lit_loaded}
 use Rattle.rules.specs.Marker.{Eq, PopJumpIfFalse}
 use Rattle.tables.specs.Record.{word}
@@ -10,10 +10,10 @@ returns c =
     λ q. record {
       moves = λ r y e. record {
         moves = λ v o₀ A h.
-            let r₁ = c.args.recs.now in
+            let r₁ = c.args.tree.now.records.now in
             let i = c.args.pattern in
             let h1 = lit_loaded q (word r₁ i 1) (word r₁ i 2) (word r₁ i 3) c.push_lit.ensures h in
-            let h2 = said r Eq 0 refl refl c.push_eq.ensures h1 in
-            jumped r PopJumpIfFalse y refl e c.push_pop_jump_if_false.ensures h2;
+            let h2 = said r Eq 0 refl refl c.push_op.ensures h1 in
+            jumped r PopJumpIfFalse y refl e c.push_op-2.ensures h2;
       };
     }

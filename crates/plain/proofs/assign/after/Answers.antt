@@ -1,8 +1,8 @@
 use Prim.Native.Nat.{ℕ}
-use Rattle.emit.proofs.RepLaws.{resim, stay}
-use Rattle.emit.proofs.VisitLaws.{visit_none}
-use Rattle.emit.specs.Does.{visit_in}
-use Rattle.emit.specs.Rep.{lent}
+use Rattle.context.proofs.RepLaws.{resim, stay}
+use Rattle.context.proofs.VisitLaws.{visit_none}
+use Rattle.context.specs.Does.{visit_in}
+use Rattle.context.specs.Rep.{lent}
 use Rattle.plain.proofs.EndLaws.{after_member, after_other, after_plain}
 use Rattle.plain.proofs.LeafLaws.{used_at}
 use Rattle.rules.specs.Step.{After, Set}
@@ -11,25 +11,23 @@ use Rattle.plain.proofs.assign.after.Goals as goal
 
 pub returns-then-left-eq0 : goal.returns-then-left-eq0
 returns-then-left-eq0 c =
-    λ consts. resim (λ m z A. ap (λ (l : ℕ). visit_in (lent c.args.recs.now c.args.notes.now) m After l A) c.if-left-eq0.true ∙ visit_none (lent c.args.recs.now
-    c.args.notes.now) m After A) stay
+    resim (λ m z A. ap (λ (l : ℕ). visit_in (lent c.args.tree.now) m After l A) c.if-left-eq0.true ∙ visit_none (lent c.args.tree.now) m After A) stay
 
 pub returns-then-kind-ne-LEFT : goal.returns-then-kind-ne-LEFT
 returns-then-kind-ne-LEFT c =
-    λ consts. resim (λ m z A. after_other (lent c.args.recs.now c.args.notes.now) m c.args.left c.if-left-eq0.false _ c.kind.ensures c.if-kind-ne-LEFT.true
+    resim (λ m z A. after_other (lent c.args.tree.now) m c.args.left c.if-left-eq0.false _ c.kind.ensures c.if-kind-ne-LEFT.true
     A) stay
 
 pub returns-then-detail-eq-PLAIN : goal.returns-then-detail-eq-PLAIN
 returns-then-detail-eq-PLAIN c =
-    λ consts. resim (λ m z A. after_plain (lent c.args.recs.now c.args.notes.now) m c.args.left c.if-left-eq0.false _ c.kind.ensures _ _ c.if-kind-ne-LEFT.false
+    resim (λ m z A. after_plain (lent c.args.tree.now) m c.args.left c.if-left-eq0.false _ c.kind.ensures _ _ c.if-kind-ne-LEFT.false
     c.detail.ensures c.first-ident.ensures c.if-detail-eq-PLAIN.true A)
-    (record { sim = λ z m o₀ A h. used_at (lent c.args.recs.now c.args.notes.now) c.args.left Set _ c.store.ensures h })
+    (record { sim = λ z m o₀ A h. used_at (lent c.args.tree.now) c.args.left Set _ c.store.ensures h })
 
 pub returns : goal.returns
 returns c =
-    λ consts. resim (λ m z A. after_member (lent c.args.recs.now c.args.notes.now) m c.args.left c.if-left-eq0.false _ c.kind.ensures _ _ c.if-kind-ne-LEFT.false
+    resim (λ m z A. after_member (lent c.args.tree.now) m c.args.left c.if-left-eq0.false _ c.kind.ensures _ _ c.if-kind-ne-LEFT.false
     c.detail.ensures c.first-ident.ensures c.if-detail-eq-PLAIN.false c.left_property.ensures A)
     (record {
-      sim = λ z m o₀ A h. used_at (lent c.args.recs.now c.args.notes.now) c.args.left Set _ c.store-2.ensures ((c.set_member.ensures c.args.recs.now consts
-          c.args.left).moves m o₀ A h);
+      sim = λ z m o₀ A h. used_at (lent c.args.tree.now) c.args.left Set _ c.store-2.ensures ((c.set_member.ensures c.args.tree.now.records.now c.args.left).moves m o₀ A h);
     })

@@ -1,6 +1,6 @@
-use Rattle.emit.proofs.MarkLaws.{said}
-use Rattle.emit.proofs.RepLaws.{given}
-use Rattle.emit.proofs.SinkLaws.{push_as}
+use Rattle.context.proofs.MarkLaws.{said}
+use Rattle.context.proofs.RepLaws.{given}
+use Rattle.plain.proofs.OperatorLaws.{push_as}
 use Rattle.opcode.specs.Members.{member_number}
 use Rattle.plain.proofs.OperatorLaws.{set_own}
 use Rattle.rules.specs.Arms.{set_code}
@@ -12,21 +12,21 @@ use Rattle.plain.proofs.assign.set_member.Goals as goal
 
 pub returns-then-is_meta : goal.returns-then-is_meta
 returns-then-is_meta c =
-    λ recs consts r. record {
+    λ recs r. record {
       moves = λ m o₀ A h.
-          let h1 = said r Swap 2 refl refl c.push_swap.ensures h in
+          let h1 = said r Swap 2 refl refl c.push_op.ensures h in
           given (ap (λ (b : Bool). emit (mark r (Do (set_code (member_number c.args.property)) 0)) (emit (mark r (Do Swap 2)) (cond b A (emit (mark r (Do Swap
-          3)) A)))) (sym c.is_meta.ensures ∙ c.if-is_meta.true)) (said r (set_code (member_number c.args.property)) 0 refl refl (push_as (set_own c.args.property)
+          3)) A)))) (sym c.is_meta.ensures ∙ c.if-is_meta.true)) (said r (set_code (member_number c.args.property)) 0 refl refl (push_as _ (set_own c.args.property)
           c.push_set.ensures) h1);
     }
 
 pub returns : goal.returns
 returns c =
-    λ recs consts r. record {
+    λ recs r. record {
       moves = λ m o₀ A h.
-          let h1 = said r Swap 3 refl refl c.push_swap-2.ensures h in
-          let h2 = said r Swap 2 refl refl c.push_swap-3.ensures h1 in
+          let h1 = said r Swap 3 refl refl c.push_op-2.ensures h in
+          let h2 = said r Swap 2 refl refl c.push_op-3.ensures h1 in
           given (ap (λ (b : Bool). emit (mark r (Do (set_code (member_number c.args.property)) 0)) (emit (mark r (Do Swap 2)) (cond b A (emit (mark r (Do Swap
-          3)) A)))) (sym c.is_meta.ensures ∙ c.if-is_meta.false)) (said r (set_code (member_number c.args.property)) 0 refl refl (push_as (set_own c.args.property)
+          3)) A)))) (sym c.is_meta.ensures ∙ c.if-is_meta.false)) (said r (set_code (member_number c.args.property)) 0 refl refl (push_as _ (set_own c.args.property)
           c.push_set-2.ensures) h2);
     }

@@ -1,5 +1,5 @@
-use Rattle.emit.proofs.Basics.{more_cap}
-use Rattle.emit.specs.Words.{more}
+use Rattle.context.proofs.Basics.{more_cap}
+use Rattle.context.specs.Words.{more}
 use Rattle.plain.proofs.EndLaws.{count_method, count_none, count_other}
 use mathlib.Core.Path.{◌∙◌, ap}
 use Rattle.plain.proofs.children.argument_count.Goals as goal
@@ -10,7 +10,7 @@ returns-then-callee-eq0 c =
 
 pub returns-then-is_method : goal.returns-then-is_method
 returns-then-is_method c =
-    count_method c.args.recs.now c.args.callee c.args.n c.if-callee-eq0.false _ c.is_method.ensures _ (c.inc.ensures ∙ ap more c.capped-count.ensures ∙
+    count_method c.args.recs.now c.args.callee c.args.n c.if-callee-eq0.false _ c.is_method.ensures _ (c.saturating_add.ensures ∙ ap more c.capped-count.ensures ∙
     more_cap c.args.n) c.if-is_method.true
 
 pub returns : goal.returns

@@ -1,27 +1,27 @@
-use Rattle.emit.proofs.LeaveLaws.{left_some}
-use Rattle.emit.specs.Does.{does, doing}
+use Rattle.context.proofs.LeaveLaws.{left_some}
+use Rattle.context.specs.Does.{does, doing}
 use Rattle.plain.proofs.EndLaws.{cut_off}
 use Rattle.plain.proofs.LeafLaws.{nulled}
 use Rattle.pool.specs.Value.{Null}
 use Rattle.rules.specs.Marker.{Continue, Load, LoadConst, mark}
 use Rattle.rules.specs.Run.{exec}
 use Rattle.tables.specs.Record.{words}
-use mathlib.Core.Path.{◌∙◌, refl, sym}
+use mathlib.Core.Path.{refl}
 use Rattle.plain.proofs.leaf.continue_loop.Goals as goal
 
 pub returns-in_default : goal.returns-in_default
 unfolding does doing exec
 returns-in_default c =
-    λ notes. record {
-      sim = λ z m o₀ A h. cut_off c.args.frame.now c.args.r (words c.args.recs.now c.args.r) Continue (mark c.args.r (Load
-          LoadConst Null)) (sym c.continue_label.ensures ∙ c.in_default.is) c.cut.ensures h;
+    record {
+      sim = λ z m o₀ A h. cut_off c.args.r (words c.args.tree.now.records.now c.args.r) Continue (mark c.args.r (Load LoadConst Null)) c.continue_label.ensures
+          c.in_default.is c.cut.ensures h;
     }
 
 pub returns : goal.returns
 unfolding does doing exec
 returns c =
-    λ notes. record {
+    record {
       sim = λ z m o₀ A h.
-          let h1 = left_some c.args.r (words c.args.recs.now c.args.r) Continue c.continue_label.ensures c.in-Found.is refl c.push_continue.ensures h in
+          let h1 = left_some c.args.r (words c.args.tree.now.records.now c.args.r) Continue c.continue_label.ensures h c.in-Some.is refl c.push_op.ensures in
           nulled c.args.r c.push_null.ensures h1;
     }

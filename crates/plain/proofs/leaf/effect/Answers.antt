@@ -1,5 +1,5 @@
-use Rattle.emit.specs.Does.{does, doing}
-use Rattle.emit.specs.Rep.{lent}
+use Rattle.context.specs.Does.{does, doing}
+use Rattle.context.specs.Rep.{lent}
 use Rattle.plain.proofs.LeafLaws.{effect_loaded, nulled, used_child}
 use Rattle.rules.specs.Run.{exec}
 use Rattle.rules.specs.Step.{Set}
@@ -10,7 +10,7 @@ unfolding does doing exec
 returns c =
     λ k. record {
       sim = λ z m o₀ A h.
-          let h1 = effect_loaded (lent c.args.recs.now c.args.notes.now) c.args.r z {k = 5} k c.capped.ensures c.push_load_const.ensures h in
-          let h2 = used_child (lent c.args.recs.now c.args.notes.now) c.args.r Set 0 c.first-name.ensures c.store.ensures h1 in
+          let h1 = effect_loaded (lent c.args.tree.now) c.args.r z {k = 5} k c.capped.ensures c.push_load_const.ensures h in
+          let h2 = used_child (lent c.args.tree.now) c.args.r Set 0 c.first-name.ensures c.store.ensures h1 in
           nulled c.args.r c.push_null.ensures h2;
     }

@@ -1,16 +1,18 @@
-use Rattle.emit.specs.Rep.{lent}
+use native.Mathlib.Omega.{arith}
+use Rattle.context.specs.Rep.{lent}
 use Rattle.plain.proofs.LoopLaws.{down_again, down_end, down_start}
-use mathlib.Core.Path.{refl}
 use Rattle.plain.proofs.leaf.params.Goals as goal
 
-pub loop-left-init : goal.loop-left-init
-loop-left-init c =
-    down_start (lent c.args.recs.now c.args.notes.now) c.args.r _ _ c.first-first.ensures c.width-left.ensures c.last-param.ensures
+pub loop-init : goal.loop-init
+loop-init c =
+    down_start (lent c.args.tree.now) c.args.r _ c.first-first.ensures (omega (arith, c.width-end.ensures)) c.last-param.ensures
 
-pub loop-left-preserved : goal.loop-left-preserved
-loop-left-preserved c =
-    down_again (lent c.args.recs.now c.args.notes.now) c.args.r c.loop-left.invariant c.loop-left-test.true refl c.store.ensures c.earlier-param.ensures c.store.auto.code
+pub loop-preserved : goal.loop-preserved
+loop-preserved c =
+    let lt = c.loop-test.true in
+    down_again (lent c.args.tree.now) c.args.r c.loop.invariant (omega arith) (omega arith) c.store.ensures c.earlier-param.ensures
 
 pub returns : goal.returns
 returns c =
-    down_end (lent c.args.recs.now c.args.notes.now) c.args.r c.loop-left.invariant c.loop-left-test.false
+    let le = c.loop-test.false in
+    down_end (lent c.args.tree.now) c.args.r c.loop.invariant (omega arith)

@@ -1,11 +1,8 @@
-use Rattle.emit.specs.Rep.{lent}
+use Prim.Native.Nat.{◌-◌}
+use Rattle.context.specs.Rep.{lent}
 use Rattle.plain.proofs.LoopLaws.{Down}
 use Rattle.plain.proofs.leaf.params.Given as goal
 
-abbrev pub invariant-loop-left : goal.invariant-loop-left
-invariant-loop-left l =
-    Down (lent l.recs l.notes) l.r l.initial.code l.initial.frame l.code l.frame l.left l.param
-
-abbrev pub decreases-loop-left : goal.decreases-loop-left
-decreases-loop-left l =
-    l.left
+abbrev pub invariant-loop : goal.invariant-loop
+invariant-loop l =
+    Down (lent l.tree) l.r l.initial.cx l.cx (l.end - l.counter) l.param

@@ -1,7 +1,7 @@
 use Prim.Native.Nat.{ℕ}
-use Rattle.emit.proofs.MarkLaws.{jumped}
-use Rattle.emit.proofs.RepLaws.{given, label, labelled}
-use Rattle.emit.specs.Rep.{lent}
+use Rattle.context.proofs.MarkLaws.{jumped}
+use Rattle.context.proofs.RepLaws.{given, label, labelled}
+use Rattle.context.specs.Rep.{lent}
 use Rattle.plain.proofs.LeafLaws.{used_at}
 use Rattle.plain.specs.Runs.{register, use_at}
 use Rattle.rules.specs.Marker.{RegisterHandler, To, mark}
@@ -13,12 +13,12 @@ use Rattle.plain.proofs.leaf.register.Goals as goal
 pub returns : goal.returns
 unfolding register
 returns c =
-    λ consts r. record {
+    λ r. record {
       moves = λ m o₀ A h.
           let l = label c.get_label-handler_label.ensures h in
           let h1 = labelled c.get_label-handler_label.ensures h in
-          let h2 = used_at (lent c.args.recs.now c.args.notes.now) r Get _ c.load.ensures h1 in
-          let h3 = jumped r RegisterHandler (labels A) refl l c.push_register_handler.ensures h2 in
-          given (ap (λ (i : ℕ). emit (mark r (To RegisterHandler (labels A))) (use_at (lent c.args.recs.now c.args.notes.now) r Get i (bump A))) (sym
+          let h2 = used_at (lent c.args.tree.now) r Get _ c.load.ensures h1 in
+          let h3 = jumped r RegisterHandler (labels A) refl l c.push_op.ensures h2 in
+          given (ap (λ (i : ℕ). emit (mark r (To RegisterHandler (labels A))) (use_at (lent c.args.tree.now) r Get i (bump A))) (sym
           c.first_child-effect.ensures)) h3;
     }

@@ -1,4 +1,4 @@
-use Rattle.emit.specs.Rep.{lent}
+use Rattle.context.specs.Rep.{lent}
 use Rattle.plain.proofs.CountLaws.{width_falls}
 use Rattle.plain.proofs.LoopLaws.{registering_again, registering_end}
 use native.Mathlib.Omega.{arith}
@@ -6,12 +6,12 @@ use Rattle.plain.proofs.leaf.registers.Goals as goal
 
 pub loop-handler-smaller : goal.loop-handler-smaller
 loop-handler-smaller c =
-    omega (arith, width_falls c.args.recs.now _ _ c.loop-handler-test.true c.next-handler.ensures)
+    omega (arith, width_falls c.args.tree.now.records.now _ _ c.loop-handler-test.true c.next-handler.ensures)
 
 pub loop-handler-preserved : goal.loop-handler-preserved
 loop-handler-preserved c =
-    registering_again (lent c.args.recs.now c.args.notes.now) c.loop-handler.invariant c.loop-handler-test.true c.next-handler.ensures c.register.ensures c.register.auto.code
+    registering_again (lent c.args.tree.now) c.loop-handler.invariant c.loop-handler-test.true c.next-handler.ensures c.register.ensures
 
 pub returns : goal.returns
 returns c =
-    registering_end (lent c.args.recs.now c.args.notes.now) c.loop-handler.invariant c.loop-handler-test.false c.coming_label-first_label.ensures
+    registering_end (lent c.args.tree.now) c.loop-handler.invariant c.loop-handler-test.false c.coming_label-first_label.ensures

@@ -1,4 +1,4 @@
-use Rattle.emit.specs.Rep.{lent}
+use Rattle.context.specs.Rep.{lent}
 use Rattle.plain.proofs.CountLaws.{row}
 use Rattle.plain.proofs.LoopLaws.{Registering}
 use Rattle.rules.specs.Step.{width}
@@ -6,8 +6,8 @@ use Rattle.plain.proofs.leaf.registers.Given as goal
 
 abbrev pub invariant-loop-handler : goal.invariant-loop-handler
 invariant-loop-handler l =
-    Registering (lent l.recs l.notes) l.handlers l.initial.code l.initial.frame l.code l.frame l.handler
+    Registering (lent l.tree) l.handlers l.initial.cx l.cx l.handler
 
 abbrev pub decreases-loop-handler : goal.decreases-loop-handler
 decreases-loop-handler l =
-    width (row l.recs l.handler)
+    width (row l.tree.records.now l.handler)

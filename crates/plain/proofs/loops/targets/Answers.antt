@@ -1,7 +1,7 @@
-use Rattle.emit.proofs.Basics.{on_false, on_true}
-use Rattle.emit.proofs.MarkLaws.{said}
-use Rattle.emit.proofs.RepLaws.{given}
-use Rattle.emit.specs.Rep.{lent}
+use Rattle.context.proofs.Basics.{on_false, on_true}
+use Rattle.context.proofs.MarkLaws.{said}
+use Rattle.context.proofs.RepLaws.{given}
+use Rattle.context.specs.Rep.{lent}
 use Rattle.plain.proofs.LeafLaws.{used_at}
 use Rattle.rules.specs.Marker.{Pop}
 use Rattle.rules.specs.Step.{Set}
@@ -12,12 +12,12 @@ use Rattle.plain.proofs.loops.targets.Goals as goal
 pub returns-then-n-eq1 : goal.returns-then-n-eq1
 returns-then-n-eq1 c =
     λ r. record {
-      moves = λ m o₀ A h. given (on_true _ _ _ (eq-eqb _ 1 c.if-n-eq1.true)) (used_at (lent c.args.recs.now c.args.notes.now) r Set _ c.store.ensures h);
+      moves = λ m o₀ A h. given (on_true _ _ _ (eq-eqb _ 1 c.if-n-eq1.true)) (used_at (lent c.args.tree.now) r Set _ c.store.ensures h);
     }
 
 pub returns : goal.returns
 returns c =
     λ r. record {
-      moves = λ m o₀ A h. given (on_false _ _ _ (ne_eqb _ 1 c.if-n-eq1.false)) (said r Pop 0 refl refl c.push_pop.ensures ((c.items.ensures r).moves
+      moves = λ m o₀ A h. given (on_false _ _ _ (ne_eqb _ 1 c.if-n-eq1.false)) (said r Pop 0 refl refl c.push_op.ensures ((c.items.ensures r).moves
           m o₀ A h));
     }

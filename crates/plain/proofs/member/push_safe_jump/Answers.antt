@@ -1,7 +1,7 @@
 use Prim.Native.Nat.{ℕ}
-use Rattle.emit.proofs.Basics.{on_false}
-use Rattle.emit.proofs.MarkLaws.{jumped}
-use Rattle.emit.proofs.RepLaws.{given}
+use Rattle.context.proofs.Basics.{on_false}
+use Rattle.context.proofs.MarkLaws.{jumped}
+use Rattle.context.proofs.RepLaws.{given}
 use Rattle.rules.specs.Marker.{JumpPopIfNull}
 use borrow.Author.Tests.{le-ltb}
 use lib.Dec.{ltb}
@@ -11,8 +11,8 @@ use Rattle.plain.proofs.member.push_safe_jump.Goals as goal
 pub returns : goal.returns
 returns c =
     record {
-      moves = λ consts a q. record {
+      moves = λ a q. record {
         moves = λ m o₀ A h. given (on_false _ _ _ (ap (λ (d : ℕ). ltb d 8) (sym c.detail.ensures) ∙ le-ltb _ 8 c.if-detail-lt-SAFE.false))
-            (jumped c.args.r JumpPopIfNull a refl q c.push_jump_pop_if_null.ensures h);
+            (jumped c.args.r JumpPopIfNull a refl q c.push_op.ensures h);
       };
     }

@@ -1,4 +1,4 @@
-use Rattle.emit.proofs.PartLaws.{width_none}
+use Rattle.context.proofs.PartLaws.{width_none}
 use Rattle.plain.proofs.CountLaws.{width_falls, width_most}
 use mathlib.Core.Path.{refl}
 use native.Mathlib.Omega.{arith}

@@ -1,31 +1,16 @@
-use mathlib.Core.Path.{sym, ◌∙◌}
+use mathlib.Core.Path.{refl}
 use native.Mathlib.Omega.{arith}
-use Rattle.pool.proofs.SearchLaws.{sought_hit, sought_miss, sought_end, sought_past}
+use borrow.Author.Tests.{tests}
+use Rattle.std.proofs.Common.{rules}
+use Rattle.std.proofs.lemmas.Iterator.{YieldsList-from_range}
+use Rattle.std.proofs.lemmas.Iterator.Search.{find_from_yields_List}
+use Rattle.pool.specs.Consts.{constant}
+use Rattle.pool.proofs.SearchLaws.{hit, sought}
 use Rattle.pool.proofs.consts.find_const.Goals as goal
-
-pub returns-then-same_const : goal.returns-then-same_const
-returns-then-same_const c =
-    let a = c.args in
-    let w = c.loop-i in
-    sought_hit a.records.now a.consts.now a.n a.kind a.low a.high w.i w.invariant (omega arith)
-    (sym c.if-same_const.true ∙ c.same_const.ensures)
-
-pub returns-then-consts-i : goal.returns-then-consts-i
-returns-then-consts-i c =
-    let a = c.args in
-    let w = c.loop-i in
-    sought_past a.records.now a.consts.now a.n a.kind a.low a.high w.i w.invariant (omega arith) c.if-consts-i.true
-    (sym c.if-same_const.false ∙ c.same_const.ensures)
-
-pub loop-i-preserved : goal.loop-i-preserved
-loop-i-preserved c =
-    let a = c.args in
-    let w = c.loop-i in
-    sought_miss a.records.now a.consts.now a.n a.kind a.low a.high w.i w.invariant (omega arith)
-    (sym c.if-same_const.false ∙ c.same_const.ensures)
 
 pub returns : goal.returns
 returns c =
     let a = c.args in
-    sought_end a.records.now a.consts.now a.n a.kind a.low a.high c.loop-i.i c.loop-i.invariant
-    (omega arith)
+    let v = (constant a.records.now a.words).value in
+    sought a.records.now a.consts.now v a.n _ _ c.min.ensures
+    (find_from_yields_List (hit a.records.now a.consts.now v) _ _ c.find.result c.find.ensures.ran (YieldsList-from_range 0 c.min.result _ refl (omega arith)) (λ x b q k. search (rules, tests)))

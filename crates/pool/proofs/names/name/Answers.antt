@@ -1,5 +1,6 @@
 use Rattle.pool.proofs.NameTables.{all_laid, chosen_most, none_laid, span_laid}
 use Rattle.pool.specs.NameSteps.{class_in, entries_named}
+use Rattle.pool.specs.declared.scope.Table.TheVariants.{Locals, Globals, Upvalues}
 use Rattle.pool.specs.declared.spans.Span.{Span}
 use mathlib.Core.Path.{◌∙◌, ap}
 use native.Mathlib.Omega.{arith}
@@ -7,7 +8,7 @@ use Rattle.pool.proofs.names.name.Goals as goal
 
 pub pass-upvalues-requires : goal.pass-upvalues-requires
 pass-upvalues-requires c =
-    omega (arith, c.pass-globals.ensures.place, chosen_most 1 (class_in c.args.symbols.now c.args.scope.now) c.args.share.now, c.if-share-le1024.true)
+    omega (arith, c.pass-globals.ensures.place, chosen_most Locals (class_in c.args.symbols.now c.args.scope.now) c.args.share.now, c.if-share-le1024.true)
 
 pub pass-end-requires : goal.pass-end-requires
 pass-end-requires c =
@@ -15,23 +16,23 @@ pass-end-requires c =
       arith,
       c.pass-globals.ensures.place,
       c.pass-upvalues.ensures.place,
-      chosen_most 1 (class_in c.args.symbols.now c.args.scope.now)
+      chosen_most Locals (class_in c.args.symbols.now c.args.scope.now)
           c.args.share.now,
-      chosen_most 2 (class_in c.args.symbols.now c.args.scope.now) c.args.share.now,
+      chosen_most Globals (class_in c.args.symbols.now c.args.scope.now) c.args.share.now,
       c.if-share-le1024.true,
     )
 
 pub overflow_cast-globals : goal.overflow_cast-globals
 overflow_cast-globals c =
-    omega (arith, c.pass-globals.ensures.place, chosen_most 1 (class_in c.args.symbols.now c.args.scope.now) c.args.share.now, c.if-share-le1024.true)
+    omega (arith, c.pass-globals.ensures.place, chosen_most Locals (class_in c.args.symbols.now c.args.scope.now) c.args.share.now, c.if-share-le1024.true)
 
 pub overflow_cast-upvalues : goal.overflow_cast-upvalues
 overflow_cast-upvalues c =
-    omega (arith, c.pass-upvalues.ensures.place, chosen_most 2 (class_in c.args.symbols.now c.args.scope.now) c.args.share.now, c.if-share-le1024.true)
+    omega (arith, c.pass-upvalues.ensures.place, chosen_most Globals (class_in c.args.symbols.now c.args.scope.now) c.args.share.now, c.if-share-le1024.true)
 
 pub overflow_cast-end : goal.overflow_cast-end
 overflow_cast-end c =
-    omega (arith, c.pass-end.ensures.place, chosen_most 3 (class_in c.args.symbols.now c.args.scope.now) c.args.share.now, c.if-share-le1024.true)
+    omega (arith, c.pass-end.ensures.place, chosen_most Upvalues (class_in c.args.symbols.now c.args.scope.now) c.args.share.now, c.if-share-le1024.true)
 
 pub returns-then-share-le1024 : goal.returns-then-share-le1024
 returns-then-share-le1024 c =

@@ -1,4 +1,4 @@
-use Prim.Native.Nat.{◌+◌, ◌-◌, ◌≤◌}
+use Prim.Native.Nat.{◌+◌, ◌-◌}
 use Rattle.pool.specs.NameSteps.{symbols_at}
 use Rattle.pool.specs.Scope.{stamps}
 use mathlib.Core.Path.{◌≡◌}
@@ -6,8 +6,4 @@ use Rattle.pool.proofs.names.stamp_table.Given as goal
 
 abbrev pub invariant-loop-i : goal.invariant-loop-i
 invariant-loop-i l =
-    (l.i ≤ l.count) × (l.scope ≡ stamps l.initial.scope l.table l.i (symbols_at l.entries (l.n + l.i) (l.count - l.i)))
-
-abbrev pub decreases-loop-i : goal.decreases-loop-i
-decreases-loop-i l =
-    l.i
+    l.scope ≡ stamps l.initial.scope l.table l.i (symbols_at l.entries (l.n + l.i) (l.count - l.i))

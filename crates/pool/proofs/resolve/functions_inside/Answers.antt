@@ -4,14 +4,14 @@ use Rattle.pool.proofs.resolve.functions_inside.Goals as goal
 
 pub loop-f-init : goal.loop-f-init
 loop-f-init c =
-    (c.pairs-n.ensures, begin_first c.args.functions.now c.args.spans.now c.args.scope.now)
+    (c.pairs-f-end.ensures, begin_first c.args.functions.now c.args.spans.now c.args.inners.now)
 
 pub overflow_add-start : goal.overflow_add-start
 overflow_add-start c =
     omega (
       arith,
       c.member_count-start.ensures,
-      begin_most c.args.functions.now c.args.spans.now c.args.scope.now c.requires.few_functions c.requires.few_members c.loop-f.f c.loop-f.start _ _ (omega (
+      begin_most c.args.functions.now c.args.spans.now c.args.inners.now c.requires.few_functions c.requires.few_members c.loop-f.f c.loop-f.start _ _ (omega (
         arith,
         c.loop-f.invariant.0,
         c.loop-f-test.true,
@@ -21,6 +21,6 @@ overflow_add-start c =
 pub loop-f-preserved : goal.loop-f-preserved
 loop-f-preserved c = (
   c.loop-f.invariant.0,
-  begin_next c.args.functions.now c.args.spans.now c.args.scope.now c.requires.few_functions c.loop-f.f c.loop-f.start c.loop-f.spans c.loop-f.scope _ _ _ _ (omega
-      (arith, c.loop-f.invariant.0, c.loop-f-test.true)) c.loop-f.invariant.1 c.put_span.ensures c.parent_owner.ensures c.chain_inner.ensures c.member_count-start.ensures,
+  begin_next c.args.functions.now c.args.spans.now c.args.inners.now c.requires.few_functions c.loop-f.f c.loop-f.start c.loop-f.spans c.loop-f.inners _ _ _ _ (omega
+      (arith, c.loop-f.invariant.0, c.loop-f-test.true)) c.loop-f.invariant.1 c.put_span.ensures c.parent_owner.ensures c.push.ensures c.member_count-start.ensures,
 )

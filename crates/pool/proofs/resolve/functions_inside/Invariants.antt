@@ -1,4 +1,3 @@
-use Prim.Native.Nat.{◌-◌}
 use Rattle.pool.proofs.FunctionPass.{Beginning}
 use Rattle.tables.specs.Semantic.{pairs}
 use mathlib.Core.Path.{◌≡◌}
@@ -6,8 +5,4 @@ use Rattle.pool.proofs.resolve.functions_inside.Given as goal
 
 abbrev pub invariant-loop-f : goal.invariant-loop-f
 invariant-loop-f l =
-    (l.n ≡ pairs l.functions) × Beginning l.functions l.initial.spans l.initial.scope l.f l.start l.spans l.scope
-
-abbrev pub decreases-loop-f : goal.decreases-loop-f
-decreases-loop-f l =
-    l.n - l.f
+    (l.f-end ≡ pairs l.functions) × Beginning l.functions l.initial.spans l.initial.inners l.f l.start l.spans l.inners

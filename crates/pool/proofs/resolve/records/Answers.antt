@@ -1,32 +1,30 @@
-use Prim.Native.Nat.{ℕ}
 use Rattle.pool.proofs.RecordPass.{pass_begin, pass_done, pass_next}
-use Rattle.pool.specs.Scope.{chained, idents}
 use mathlib.Core.Logic.{inl, inr}
-use mathlib.Core.Path.{◌∙◌, ap, refl, sym}
+use mathlib.Core.Path.{◌∙◌, refl, sym}
 use native.Mathlib.Omega.{arith}
 use Rattle.pool.proofs.resolve.records.Goals as goal
 use Rattle.pool.proofs.resolve.records.Goals.{then-is_ident, else-is_ident}
 
 pub loop-r-init : goal.loop-r-init
 loop-r-init c =
-    (c.size-n.ensures, c.if-n-gt4096.false, pass_begin c.args.recs.now c.args.notes.now c.args.scope.now _ refl)
+    (c.size-n.ensures, c.if-n-gt4096.false, pass_begin c.args.recs.now c.args.notes.now c.args.idents.now _ refl)
 
 pub loop-r-preserved : goal.loop-r-preserved
 loop-r-preserved c = (
   c.loop-r.invariant.0,
   c.loop-r.invariant.1,
-  pass_next c.args.recs.now c.args.notes.now c.args.scope.now (omega (arith, c.loop-r.invariant.0, c.loop-r.invariant.1)) c.loop-r.r c.loop-r.notes c.loop-r.scope
+  pass_next c.args.recs.now c.args.notes.now c.args.idents.now (omega (arith, c.loop-r.invariant.0, c.loop-r.invariant.1)) c.loop-r.r c.loop-r.notes c.loop-r.idents
       c.loop-r.owners _ _ _ _ _ _ _ _ (omega (arith, c.loop-r.invariant.0, c.loop-r-test.true))
       c.loop-r.invariant.2 c.first-child.ensures c.next-sibling.ensures refl c.owner_inside.ensures c.own.ensures c.own-in-loop-r.ensures c.note_earlier.ensures
       (elim c.if-is_ident.branch [
         | then-is_ident w ↦ inl (
           sym c.is_ident.ensures ∙ w.if-is_ident.true,
-          w.scope-is ∙ (w.chain_ident.ensures ∙ ap (λ (k : ℕ). chained idents c.loop-r.scope k c.loop-r.r) w.wide_owner.ensures),
+          w.idents-is ∙ w.push.ensures,
         )
-        | else-is_ident w ↦ inr (sym c.is_ident.ensures ∙ w.if-is_ident.false, w.scope-is)
+        | else-is_ident w ↦ inr (sym c.is_ident.ensures ∙ w.if-is_ident.false, w.idents-is)
       ]),
 )
 
 pub returns : goal.returns
 returns c =
-    pass_done c.args.recs.now c.args.notes.now c.args.scope.now c.loop-r.r _ _ _ (omega (arith, c.loop-r.invariant.0, c.loop-r-test.false)) c.loop-r.invariant.2
+    pass_done c.args.recs.now c.args.notes.now c.args.idents.now c.loop-r.r _ _ _ (omega (arith, c.loop-r.invariant.0, c.loop-r-test.false)) c.loop-r.invariant.2

@@ -1,4 +1,4 @@
-use Prim.Native.Nat.{◌-◌, ◌≤◌}
+use Prim.Native.Nat.{◌≤◌}
 use Rattle.pool.proofs.RecordPass.{Passing}
 use Rattle.tables.specs.Record.{size}
 use mathlib.Core.Path.{◌≡◌}
@@ -6,8 +6,4 @@ use Rattle.pool.proofs.resolve.records.Given as goal
 
 abbrev pub invariant-loop-r : goal.invariant-loop-r
 invariant-loop-r l =
-    (l.n ≡ size l.recs) × (l.n ≤ 4096) × Passing l.recs l.initial.notes l.initial.scope l.r l.notes l.scope l.owners
-
-abbrev pub decreases-loop-r : goal.decreases-loop-r
-decreases-loop-r l =
-    l.n - l.r
+    (l.n ≡ size l.recs) × (l.n ≤ 4096) × Passing l.recs l.initial.notes l.initial.idents l.r l.notes l.idents l.owners

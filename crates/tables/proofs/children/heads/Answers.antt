@@ -1,14 +1,14 @@
 use mathlib.Core.Path.{ap, ◌∙◌}
+use borrow.Author.Tests.{eq-eqb}
 use Rattle.tables.specs.Children.{belongs as belongs_to}
 use Rattle.tables.proofs.ServeLaws.{heads_none, heads_some}
 use Rattle.tables.proofs.children.heads.Goals as goal
 
 -- An absent child is of no class. Assumes nothing.
-pub returns-then-c-eq0 : goal.returns-then-c-eq0
-returns-then-c-eq0 c = heads_none _ _ _ c.if-c-eq0.true
+pub returns-else-c-ne0 : goal.returns-else-c-ne0
+returns-else-c-ne0 c = simp (eq-eqb _ _ c.if-c-ne0.false) (heads_none _ _ _ c.if-c-ne0.false)
 
-pub returns : goal.returns
-returns c =
+pub returns-then-c-ne0 : goal.returns-then-c-ne0
+returns-then-c-ne0 c =
     let arg = c.args in
-    c.belongs.ensures ∙ ap (belongs_to arg.class) c.kind.ensures
-    ∙ heads_some arg.recs.now arg.c arg.class c.if-c-eq0.false
+    c.belongs.ensures ∙ ap (belongs_to arg.class) c.kind.ensures ∙ heads_some arg.recs.now arg.c arg.class c.if-c-ne0.true

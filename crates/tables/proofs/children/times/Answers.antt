@@ -1,32 +1,25 @@
-use mathlib.Core.Path.{refl, sym, ◌∙◌}
-use borrow.Author.Tests.{not-true, not-false}
+use mathlib.Core.Path.{◌≡◌, sym, ap, ◌∙◌}
+use mathlib.Core.List.{◌∷◌}
+use Prim.Native.Nat.{ℕ, ◌+◌, ◌-◌}
+use native.Mathlib.Omega.{arith}
+use Rattle.tables.specs.Children.{times as times_of, from, fits}
 use Rattle.tables.proofs.ServeLaws.{took_times, left_times, done_times}
-use borrow.Author.Rules.{rules}
-use mathlib.Core.Path.{ap}
-use mathlib.Core.Bool.{not}
 use Rattle.tables.proofs.children.times.Goals as goal
-
-pub loop-left-init : goal.loop-left-init
-loop-left-init c = λ ws. refl
 
 pub returns-then-not-heads : goal.returns-then-not-heads
 returns-then-not-heads c =
     record {
-      serves = λ ws. c.loop-left.invariant ws
-          ∙ left_times _ _ _ _ c.loop-left-test.true (sym c.heads.ensures
-          ∙ not-true _ (ap not c.if-not-heads.true)) ws ∙ sym (c.stray.ensures ws);
+      serves = λ ws. c.loop.invariant ws
+          ∙ left_times _ _ _ _ (omega arith) (sym c.heads.ensures ∙ c.if-not-heads.true) ws ∙ sym (c.stray.ensures ws);
     }
 
-pub loop-left-smaller : goal.loop-left-smaller
-loop-left-smaller c = search rules
-
-pub loop-left-preserved : goal.loop-left-preserved
-loop-left-preserved c =
-    λ ws. c.loop-left.invariant ws
-    ∙ took_times _ _ _ c.next-at.ensures _ _ c.loop-left-test.true (sym c.heads.ensures
-    ∙ not-false _ (ap not c.if-not-heads.false)) ws
+pub loop-preserved : goal.loop-preserved
+loop-preserved c =
+    let a = c.args in
+    let one_less : a.n - c.loop.counter - 1 ≡ a.n - (c.loop.counter + 1) = omega arith in
+    λ ws. c.loop.invariant ws
+    ∙ took_times _ _ _ c.next-at.ensures a.class (a.n - c.loop.counter) (omega arith) (sym c.heads.ensures ∙ c.if-not-heads.false) ws
+    ∙ ap (λ (m : ℕ). fits (times_of m a.class ∷ ws) (from a.recs.now c.next-at.result)) one_less
 
 pub returns : goal.returns
-returns c =
-    let turn = c.loop-left in
-    record { serves = λ ws. turn.invariant ws ∙ (done_times _ turn.at _ turn.left c.loop-left-test.false).serves ws }
+returns c = record { serves = λ ws. c.loop.invariant ws ∙ (done_times _ c.loop.at _ _ (omega arith)).serves ws }

@@ -1,59 +1,24 @@
-use mathlib.Core.Path.{◌≡◌, sym, ap, ◌∙◌}
-use Rattle.tables.specs.declared.refusal.Broken.{Broken}
-use Rattle.tables.specs.declared.refusal.Broken.TheVariants.{Nowhere, At}
-use Prim.Native.Nat.{ℕ}
-use Rattle.tables.specs.Entries.{or_else, entries_broken}
+use Rattle.std.proofs.Common.{rules, ◌≡◌, ℕ, Option, None, Some, refl, ap, ◌∙◌}
+use Rattle.std.specs.Option.{MatchOption}
+use Rattle.tables.specs.Entries.{or_else, symbols_broken, references_broken, parents_broken, counts_broken, members_broken, entries_broken}
 use Rattle.tables.proofs.entries.entries.Goals as goal
 
--- a table is well: the next ones decide
-skip : (x y r : Broken) → x ≡ y → x ≡ Nowhere → r ≡ or_else y r
-skip x y r e n = ap (λ (z : Broken). or_else z r) (sym n ∙ e)
+-- one table more, b after a: r is what the two tell
+next : {P : Type 0} (x r a b rest all : Option ℕ) → x ≡ a → MatchOption x P (λ v. r ≡ Some v) → (P → r ≡ b) → all ≡ or_else r rest → all ≡ or_else a (or_else b rest)
+next None r a b rest all q h k e = e ∙ ap (λ (z : Option ℕ). or_else z rest) (k h) ∙ ap (λ (z : Option ℕ). or_else z (or_else b rest)) q
+next (Some i) r a b rest all q h k e = e ∙ ap (λ (z : Option ℕ). or_else z rest) h ∙ ap (λ (z : Option ℕ). or_else z (or_else b rest)) q
 
--- it is not: its place
-halt : (x y r : Broken) (i : ℕ) → x ≡ y → x ≡ At i → At i ≡ or_else y r
-halt x y r i e n = ap (λ (z : Broken). or_else z r) (sym n ∙ e)
-
-pub returns-in-At : goal.returns-in-At
-unfolding entries_broken
-returns-in-At c =
-    halt _ _ _ _ c.strings_broken.ensures c.in-At.is
-
-pub returns-in-At-symbols_broken : goal.returns-in-At-symbols_broken
-unfolding entries_broken
-returns-in-At-symbols_broken c =
-    halt _ _ _ _ c.symbols_broken.ensures c.in-At-symbols_broken.is
-    ∙ skip _ _ _ c.strings_broken.ensures c.in_default.is
-
-pub returns-in-At-references_broken : goal.returns-in-At-references_broken
-unfolding entries_broken
-returns-in-At-references_broken c =
-    halt _ _ _ _ c.references_broken.ensures c.in-At-references_broken.is
-    ∙ skip _ _ _ c.symbols_broken.ensures c.in_default-symbols_broken.is
-    ∙ skip _ _ _ c.strings_broken.ensures c.in_default.is
-
-pub returns-in-At-parents_broken : goal.returns-in-At-parents_broken
-unfolding entries_broken
-returns-in-At-parents_broken c =
-    halt _ _ _ _ c.parents_broken.ensures c.in-At-parents_broken.is
-    ∙ skip _ _ _ c.references_broken.ensures c.in_default-references_broken.is
-    ∙ skip _ _ _ c.symbols_broken.ensures c.in_default-symbols_broken.is
-    ∙ skip _ _ _ c.strings_broken.ensures c.in_default.is
-
-pub returns-in-At-counts_broken : goal.returns-in-At-counts_broken
-unfolding entries_broken
-returns-in-At-counts_broken c =
-    halt _ _ _ _ c.counts_broken.ensures c.in-At-counts_broken.is
-    ∙ skip _ _ _ c.parents_broken.ensures c.in_default-parents_broken.is
-    ∙ skip _ _ _ c.references_broken.ensures c.in_default-references_broken.is
-    ∙ skip _ _ _ c.symbols_broken.ensures c.in_default-symbols_broken.is
-    ∙ skip _ _ _ c.strings_broken.ensures c.in_default.is
+-- and the last
+last : {P : Type 0} (x b r : Option ℕ) → MatchOption x P (λ v. r ≡ Some v) → (P → r ≡ b) → r ≡ or_else x b
+last None b r h k = k h
+last (Some i) b r h k = h
 
 pub returns : goal.returns
 unfolding entries_broken
 returns c =
-    c.members_broken.ensures
-    ∙ skip _ _ _ c.counts_broken.ensures c.in_default-counts_broken.is
-    ∙ skip _ _ _ c.parents_broken.ensures c.in_default-parents_broken.is
-    ∙ skip _ _ _ c.references_broken.ensures c.in_default-references_broken.is
-    ∙ skip _ _ _ c.symbols_broken.ensures c.in_default-symbols_broken.is
-    ∙ skip _ _ _ c.strings_broken.ensures c.in_default.is
+    let t = c.args.tables.now in
+    next _ c.or_else.result _ (symbols_broken t.strings.now t.symbols.now) _ _ c.strings_broken.ensures c.or_else.ensures (λ p. search rules)
+    (next _ c.or_else-2.result _ (references_broken t.symbols.now t.references.now) _ _ refl c.or_else-2.ensures (λ p. search rules)
+    (next _ c.or_else-3.result _ (parents_broken t.functions.now) _ _ refl c.or_else-3.ensures (λ p. search rules)
+    (next _ c.or_else-4.result _ (counts_broken t.functions.now t.members.now) _ _ refl c.or_else-4.ensures (λ p. search rules)
+    (last _ (members_broken t.symbols.now t.functions.now t.members.now) _ c.or_else-5.ensures (λ p. search rules)))))

@@ -1,122 +1,29 @@
-use mathlib.Core.Path.{◌≡◌, refl, sym, ap, ◌∙◌}
-use mathlib.Core.Bool.{Bool, true, false, cond, false≢true}
-use mathlib.Core.List.{List, [], ◌∷◌}
-use Prim.Native.Nat.{ℕ, zero, suc}
-use lib.ListN.{get_or, drop}
-use borrow.Author.Tests.{eq-eqb, ne_eqb}
-use Rattle.tables.specs.declared.refusal.Broken.TheVariants.{At}
-use Rattle.tables.specs.Lent.{first_refused, refused, lent_broken}
+use Rattle.std.proofs.Common.{rules, ◌≡◌, ℕ, ◌+◌, Bool, true, false, List, [], ◌∷◌, refl, sym, ap, ◌∙◌}
+use Rattle.std.specs.Option.{option_map}
+use Rattle.tables.specs.Lent.{first_refused, refused, unfit, lent_broken}
 use Rattle.tables.proofs.lent.lent.Goals as goal
+use Rattle.tables.proofs.lent.lent.Goals.{then-unfit, else-unfit}
+use lib.Dec.{eqb}
+use lib.ListN.{length}
+use mathlib.Core.Bool.{◌||◌}
 
--- table t, number k of the list, is refused
-hit : (t k : ℕ) (bs : List Bool) → get_or bs k false ≡ true → At t ≡ first_refused t (drop k bs)
-hit t zero [] e = absurd (false≢true e)
-hit t (suc k) [] e = absurd (false≢true e)
-hit t zero (b ∷ bs) e = ap (λ (z : Bool). cond z (At t) (first_refused (suc t) bs)) (sym e)
-hit t (suc k) (b ∷ bs) e = hit t k bs e
-
--- it is not: go on with the next
-turn : (t k : ℕ) (bs : List Bool) → get_or bs k false ≡ false → first_refused (suc t) (drop (suc k) bs) ≡ first_refused t (drop k bs)
-turn t zero [] e = refl
-turn t (suc k) [] e = refl
-turn t zero (b ∷ bs) e = ap (λ (z : Bool). cond z (At t) (first_refused (suc t) bs)) (sym e)
-turn t (suc k) (b ∷ bs) e = turn t k bs e
-
-pub returns-then-unfit : goal.returns-then-unfit
-unfolding lent_broken
-returns-then-unfit c =
-    let a = c.args in
-    let t = refused a.strings.now a.bytes.now a.symbols.now a.references.now a.functions.now a.members.now a.records.now in
-    hit 1 0 t (sym c.unfit.ensures ∙ c.if-unfit.true)
-
-pub returns-then-unfit-2 : goal.returns-then-unfit-2
-unfolding lent_broken
-returns-then-unfit-2 c =
-    let a = c.args in
-    let t = refused a.strings.now a.bytes.now a.symbols.now a.references.now a.functions.now a.members.now a.records.now in
-    hit 2 1 t (sym c.unfit-2.ensures ∙ c.if-unfit-2.true)
-    ∙ turn 1 0 t (sym c.unfit.ensures ∙ c.if-unfit.false)
-
-pub returns-then-unfit-3 : goal.returns-then-unfit-3
-unfolding lent_broken
-returns-then-unfit-3 c =
-    let a = c.args in
-    let t = refused a.strings.now a.bytes.now a.symbols.now a.references.now a.functions.now a.members.now a.records.now in
-    hit 3 2 t (sym c.unfit-3.ensures ∙ c.if-unfit-3.true)
-    ∙ turn 2 1 t (sym c.unfit-2.ensures ∙ c.if-unfit-2.false)
-    ∙ turn 1 0 t (sym c.unfit.ensures ∙ c.if-unfit.false)
-
-pub returns-then-unfit-4 : goal.returns-then-unfit-4
-unfolding lent_broken
-returns-then-unfit-4 c =
-    let a = c.args in
-    let t = refused a.strings.now a.bytes.now a.symbols.now a.references.now a.functions.now a.members.now a.records.now in
-    hit 4 3 t (sym c.unfit-4.ensures ∙ c.if-unfit-4.true)
-    ∙ turn 3 2 t (sym c.unfit-3.ensures ∙ c.if-unfit-3.false)
-    ∙ turn 2 1 t (sym c.unfit-2.ensures ∙ c.if-unfit-2.false)
-    ∙ turn 1 0 t (sym c.unfit.ensures ∙ c.if-unfit.false)
-
-pub returns-then-unfit-5 : goal.returns-then-unfit-5
-unfolding lent_broken
-returns-then-unfit-5 c =
-    let a = c.args in
-    let t = refused a.strings.now a.bytes.now a.symbols.now a.references.now a.functions.now a.members.now a.records.now in
-    hit 5 4 t (sym c.unfit-5.ensures ∙ c.if-unfit-5.true)
-    ∙ turn 4 3 t (sym c.unfit-4.ensures ∙ c.if-unfit-4.false)
-    ∙ turn 3 2 t (sym c.unfit-3.ensures ∙ c.if-unfit-3.false)
-    ∙ turn 2 1 t (sym c.unfit-2.ensures ∙ c.if-unfit-2.false)
-    ∙ turn 1 0 t (sym c.unfit.ensures ∙ c.if-unfit.false)
-
-pub returns-then-unfit-6 : goal.returns-then-unfit-6
-unfolding lent_broken
-returns-then-unfit-6 c =
-    let a = c.args in
-    let t = refused a.strings.now a.bytes.now a.symbols.now a.references.now a.functions.now a.members.now a.records.now in
-    hit 6 5 t (sym c.unfit-6.ensures ∙ c.if-unfit-6.true)
-    ∙ turn 5 4 t (sym c.unfit-5.ensures ∙ c.if-unfit-5.false)
-    ∙ turn 4 3 t (sym c.unfit-4.ensures ∙ c.if-unfit-4.false)
-    ∙ turn 3 2 t (sym c.unfit-3.ensures ∙ c.if-unfit-3.false)
-    ∙ turn 2 1 t (sym c.unfit-2.ensures ∙ c.if-unfit-2.false)
-    ∙ turn 1 0 t (sym c.unfit.ensures ∙ c.if-unfit.false)
-
-pub returns-then-unfit-7 : goal.returns-then-unfit-7
-unfolding lent_broken
-returns-then-unfit-7 c =
-    let a = c.args in
-    let t = refused a.strings.now a.bytes.now a.symbols.now a.references.now a.functions.now a.members.now a.records.now in
-    let e = sym c.unfit-7.ensures ∙ c.if-unfit-7.true in
-    hit 7 6 t (simp e)
-    ∙ turn 6 5 t (sym c.unfit-6.ensures ∙ c.if-unfit-6.false)
-    ∙ turn 5 4 t (sym c.unfit-5.ensures ∙ c.if-unfit-5.false)
-    ∙ turn 4 3 t (sym c.unfit-4.ensures ∙ c.if-unfit-4.false)
-    ∙ turn 3 2 t (sym c.unfit-3.ensures ∙ c.if-unfit-3.false)
-    ∙ turn 2 1 t (sym c.unfit-2.ensures ∙ c.if-unfit-2.false)
-    ∙ turn 1 0 t (sym c.unfit.ensures ∙ c.if-unfit.false)
-
-pub returns-then-records-eq0 : goal.returns-then-records-eq0
-unfolding lent_broken
-returns-then-records-eq0 c =
-    let a = c.args in
-    let t = refused a.strings.now a.bytes.now a.symbols.now a.references.now a.functions.now a.members.now a.records.now in
-    let e = sym c.unfit-7.ensures ∙ c.if-unfit-7.false in
-    hit 7 6 t (simp (e, eq-eqb _ 0 c.if-records-eq0.true))
-    ∙ turn 6 5 t (sym c.unfit-6.ensures ∙ c.if-unfit-6.false)
-    ∙ turn 5 4 t (sym c.unfit-5.ensures ∙ c.if-unfit-5.false)
-    ∙ turn 4 3 t (sym c.unfit-4.ensures ∙ c.if-unfit-4.false)
-    ∙ turn 3 2 t (sym c.unfit-3.ensures ∙ c.if-unfit-3.false)
-    ∙ turn 2 1 t (sym c.unfit-2.ensures ∙ c.if-unfit-2.false)
-    ∙ turn 1 0 t (sym c.unfit.ensures ∙ c.if-unfit.false)
+-- the tests' places, counted from one more
+from_one : (i : ℕ) (bs : List Bool) → option_map (λ k. k + 1) (first_refused i bs) ≡ first_refused (i + 1) bs
+from_one i [] = refl
+from_one i (true ∷ bs) = refl
+from_one i (false ∷ bs) = from_one (i + 1) bs
 
 pub returns : goal.returns
 unfolding lent_broken
 returns c =
-    let a = c.args in
-    let t = refused a.strings.now a.bytes.now a.symbols.now a.references.now a.functions.now a.members.now a.records.now in
-    let e = sym c.unfit-7.ensures ∙ c.if-unfit-7.false in
-    turn 7 6 t (simp (e, ne_eqb _ 0 c.if-records-eq0.false))
-    ∙ turn 6 5 t (sym c.unfit-6.ensures ∙ c.if-unfit-6.false)
-    ∙ turn 5 4 t (sym c.unfit-5.ensures ∙ c.if-unfit-5.false)
-    ∙ turn 4 3 t (sym c.unfit-4.ensures ∙ c.if-unfit-4.false)
-    ∙ turn 3 2 t (sym c.unfit-3.ensures ∙ c.if-unfit-3.false)
-    ∙ turn 2 1 t (sym c.unfit-2.ensures ∙ c.if-unfit-2.false)
-    ∙ turn 1 0 t (sym c.unfit.ensures ∙ c.if-unfit.false)
+    let t = c.args.tables.now in
+    let all = refused t.strings.now t.bytes.now t.symbols.now t.references.now t.functions.now t.members.now t.records.now in
+    let e : c.map.result ≡ option_map (λ k. k + 1) c.first.result = search rules in
+    let last : c.if-unfit.first ≡ unfit 8 4096 (length t.records.now) || eqb (length t.records.now) 0 =
+    elim c.if-unfit.branch [
+      | then-unfit w ↦ w.first-is ∙ w.if-unfit.true ∙ simp (sym c.unfit-7.ensures ∙ w.if-unfit.true)
+      | else-unfit w ↦ simp (sym c.unfit-7.ensures ∙ w.if-unfit.false) (w.first-is ∙ w.is_empty.ensures)
+    ] in
+    e
+    ∙ ap (option_map (λ k. k + 1)) (c.first.ensures ∙ simp (c.unfit.ensures, c.unfit-2.ensures, c.unfit-3.ensures, c.unfit-4.ensures, c.unfit-5.ensures, c.unfit-6.ensures, last))
+    ∙ from_one 0 all

@@ -13,26 +13,26 @@ pub loop-f-init : goal.loop-f-init
 loop-f-init c =
     let a = c.args in
     let b = own_bad a.symbols.now a.functions.now a.members.now in
-    (omega arith, omega (arith, start_zero a.functions.now), rest_start b (length a.members.now), λ h. stamped_none (symbol_at a.members.now))
+    (omega (arith, start_zero a.functions.now), rest_start b (length a.members.now), λ h. stamped_none (symbol_at a.members.now))
 
-pub returns-in-At : goal.returns-in-At
-returns-in-At c =
+pub returns-in-Some : goal.returns-in-Some
+returns-in-Some c =
     let a = c.args in
     let l = c.loop-f in
     let n = start_next a.functions.now l.f in
     share_at a.symbols.now a.functions.now a.members.now l.f l.start
     c.add_count-end.result
     (omega arith)
-    l.invariant.1
+    l.invariant.0
     (omega arith)
     (λ q. omega (arith, n))
     _
     _
     (omega arith)
-    l.invariant.2
+    l.invariant.1
     c.share_broken.ensures.value
     _
-    c.in-At.is
+    c.in-Some.is
 
 pub loop-f-preserved : goal.loop-f-preserved
 loop-f-preserved c =
@@ -40,17 +40,16 @@ loop-f-preserved c =
     let l = c.loop-f in
     let n = start_next a.functions.now l.f in (
       omega arith,
-      omega arith,
       share_on a.symbols.now a.functions.now a.members.now l.f l.start
           c.add_count-end.result
           (omega arith)
-          l.invariant.1
+          l.invariant.0
           (omega arith)
           (λ q. omega (arith, n))
           _
           _
           (omega arith)
-          l.invariant.2
+          l.invariant.1
           c.share_broken.ensures.value
           c.in_default.is,
       c.share_broken.ensures.stamped c.in_default.is (omega arith),
@@ -64,12 +63,12 @@ returns c =
     share_end a.symbols.now a.functions.now a.members.now l.f l.start
     (length a.members.now)
     (omega arith)
-    l.invariant.1
+    l.invariant.0
     (omega arith)
     (λ q. omega (arith, n))
     _
     _
     (omega arith)
-    l.invariant.2
+    l.invariant.1
     c.share_broken-2.ensures.value
     refl

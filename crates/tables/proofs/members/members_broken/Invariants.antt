@@ -1,8 +1,8 @@
 use mathlib.Core.Path.{◌≡◌}
-use Prim.Native.Nat.{◌-◌, ◌≤◌, ◌<◌, min}
+use Prim.Native.Nat.{◌<◌, min}
 use lib.ListN.{length}
 use Rattle.tables.specs.Place.{broken}
-use Rattle.tables.specs.Semantic.{pairs, share_start}
+use Rattle.tables.specs.Semantic.{share_start}
 use Rattle.tables.specs.Entries.{own_bad}
 use Rattle.tables.specs.Seen.{symbol_at, Stamped}
 use Rattle.tables.proofs.PlaceLaws.{rest}
@@ -10,9 +10,6 @@ use Rattle.tables.proofs.members.members_broken.Given as goal
 
 abbrev pub invariant-loop-f : goal.invariant-loop-f
 invariant-loop-f l =
-    (l.f ≤ pairs l.functions) × (l.start ≡ min (share_start l.functions l.f) (length l.members))
+    (l.start ≡ min (share_start l.functions l.f) (length l.members))
     × (rest (own_bad l.symbols l.functions l.members) (length l.members) l.start ≡ broken (own_bad l.symbols l.functions l.members) (length l.members))
     × (l.start < 1024 → Stamped (symbol_at l.members) l.seen l.start)
-
-abbrev pub decreases-loop-f : goal.decreases-loop-f
-decreases-loop-f l = pairs l.functions - l.f

@@ -20,8 +20,7 @@ loop-m-preserved c =
     let l = c.loop-m in (
       go_on (member_bad a.symbols.now a.members.now a.start) a.end l.m _ l.invariant.0 (omega arith)
           (sym c.member_bad.ensures ∙ c.if-member_bad.false),
-      λ h. omega arith,
-      λ h. c.stamp.ensures (symbol_at a.members.now) (omega arith) c.entry.ensures (l.invariant.2 (omega arith)),
+      λ h. c.stamp.ensures (symbol_at a.members.now) (omega arith) c.entry.ensures (l.invariant.1 (omega arith)),
     )
 
 pub returns : goal.returns
@@ -30,7 +29,6 @@ returns c =
     let l = c.loop-m in record {
       value = ended (member_bad a.symbols.now a.members.now a.start) a.end l.m _ l.invariant.0 (omega arith);
       stamped = λ q o h.
-          let w = l.invariant.1 o in
           let z : l.m ≡ a.end = omega arith in
-          subst (λ x. Stamped (symbol_at a.members.now) l.seen x) z (l.invariant.2 (omega arith));
+          subst (λ x. Stamped (symbol_at a.members.now) l.seen x) z (l.invariant.1 (omega arith));
     }

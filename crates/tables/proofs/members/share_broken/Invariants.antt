@@ -1,5 +1,5 @@
 use mathlib.Core.Path.{◌≡◌}
-use Prim.Native.Nat.{◌-◌, ◌≤◌, ◌<◌}
+use Prim.Native.Nat.{◌<◌}
 use Rattle.tables.specs.Entries.{member_bad}
 use Rattle.tables.specs.Seen.{symbol_at, Stamped}
 use Rattle.tables.proofs.PlaceLaws.{rest}
@@ -7,8 +7,5 @@ use Rattle.tables.proofs.members.share_broken.Given as goal
 
 abbrev pub invariant-loop-m : goal.invariant-loop-m
 invariant-loop-m l =
-    (rest (member_bad l.symbols l.members l.start) l.end l.m ≡ rest (member_bad l.symbols l.members l.start) l.end l.start) × (l.start ≤ l.end → l.m ≤ l.end)
+    (rest (member_bad l.symbols l.members l.start) l.end l.m ≡ rest (member_bad l.symbols l.members l.start) l.end l.start)
     × (l.m < 1024 → Stamped (symbol_at l.members) l.seen l.m)
-
-abbrev pub decreases-loop-m : goal.decreases-loop-m
-decreases-loop-m l = l.end - l.m

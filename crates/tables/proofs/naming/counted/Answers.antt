@@ -1,16 +1,16 @@
-use mathlib.Core.Path.{sym, subst}
-use native.Mathlib.Omega.{arith}
-use borrow.Author.Rules.{rules}
-use Rattle.tables.proofs.NamingLaws.{Counts, counts_none, counts_more}
+use Rattle.std.proofs.Common.{◌≡◌, ℕ, ◌<◌, min, get_or, subst, arith}
+use Rattle.tables.specs.Naming.{named_by}
+use Rattle.tables.proofs.NamingLaws.{counts_none, counts_more}
 use Rattle.tables.proofs.naming.counted.Goals as goal
 
-pub loop-i-init : goal.loop-i-init
-loop-i-init c = (search rules, subst (λ z. Counts c.args.recs.now 0 z) (sym c.bytes-counts.ensures) (counts_none _))
+pub loop-r-init : goal.loop-r-init
+loop-r-init c = counts_none _
 
-pub loop-i-preserved : goal.loop-i-preserved
-loop-i-preserved c =
-    let l = c.loop-i in (
-      omega arith,
-      counts_more _ l.counts _ _ l.i _ _ l.invariant.1 c.first_word.ensures c.note.ensures
-          c.next_word.ensures c.note-in-loop-i.ensures,
-    )
+pub loop-r-preserved : goal.loop-r-preserved
+loop-r-preserved c =
+    let l = c.loop-r in
+    counts_more _ l.counts _ _ l.r _ _ l.invariant c.first_word.ensures c.note.ensures c.next_word.ensures c.note-in-loop-r.ensures
+
+pub returns : goal.returns
+returns c =
+    subst (λ n. (x : ℕ) → x < 4096 → get_or c.loop-r.counts x 0 ≡ min 2 (named_by c.args.recs.now x n)) (omega (arith, c.size-r-end.ensures)) c.loop-r.invariant.1

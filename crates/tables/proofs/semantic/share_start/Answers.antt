@@ -16,4 +16,4 @@ pub returns : goal.returns
 returns c =
     let a = c.args in
     let e : c.loop-g.g ≡ min a.f (pairs a.functions.now) = omega arith in
-    c.loop-g.invariant.1 ∙ ap (λ (n : ℕ). min n (2 ^ 63)) (ap (share_start a.functions.now) e ∙ start_last a.functions.now a.f)
+    c.loop-g.invariant ∙ ap (λ (n : ℕ). min n (2 ^ 63)) (ap (share_start a.functions.now) e ∙ start_last a.functions.now a.f)

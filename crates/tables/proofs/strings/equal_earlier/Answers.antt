@@ -1,26 +1,15 @@
-use mathlib.Core.Path.{sym, ap, ◌∙◌}
-use native.Mathlib.Omega.{arith}
-use Rattle.tables.specs.Entries.{found, equal_earlier}
-use Rattle.tables.proofs.EntriesLaws.{go_on, stop_at, ended}
-use Rattle.tables.proofs.strings.equal_earlier.Invariants.{equals}
+use Rattle.std.proofs.Common.{rules, ℕ, ◌∙◌, refl, arith}
+use Rattle.std.specs.List.{range_with_len}
+use Rattle.std.proofs.lemmas.Iterator.{YieldsList-from_range}
+use Rattle.std.proofs.lemmas.Iterator.Search.{any_from_yields_List}
+use Rattle.tables.specs.Entries.{same_string, equal_earlier}
+use Rattle.tables.proofs.EntriesLaws.{any_found}
 use Rattle.tables.proofs.strings.equal_earlier.Goals as goal
-
-pub returns-then-same_string : goal.returns-then-same_string
-unfolding equal_earlier
-returns-then-same_string c =
-    let a = c.args in
-    let l = c.loop-e in
-    ap found (stop_at (equals a.strings.now a.bytes.now a.s) a.s l.e _ l.invariant (omega arith) (sym c.same_string.ensures ∙ c.if-same_string.true))
-
-pub loop-e-preserved : goal.loop-e-preserved
-loop-e-preserved c =
-    let a = c.args in
-    let l = c.loop-e in
-    go_on (equals a.strings.now a.bytes.now a.s) a.s l.e _ l.invariant (omega arith) (sym c.same_string.ensures ∙ c.if-same_string.false)
 
 pub returns : goal.returns
 unfolding equal_earlier
 returns c =
     let a = c.args in
-    let l = c.loop-e in
-    ap found (ended (equals a.strings.now a.bytes.now a.s) a.s l.e _ l.invariant (omega arith))
+    let equals = λ (e : ℕ). same_string a.strings.now a.bytes.now e a.s in
+    any_from_yields_List equals _ _ c.any.result c.any.ensures.ran (YieldsList-from_range 0 a.s a.s refl (omega arith)) (λ e t q k. search rules)
+    ∙ any_found equals (range_with_len 0 a.s)

@@ -1,5 +1,5 @@
 use mathlib.Core.Path.{◌≡◌}
-use Prim.Native.Nat.{◌-◌, ◌≤◌, ◌<◌}
+use Prim.Native.Nat.{◌<◌}
 use Rattle.tables.specs.Place.{broken}
 use Rattle.tables.specs.Semantic.{pairs}
 use Rattle.tables.specs.Entries.{string_bad}
@@ -9,8 +9,5 @@ use Rattle.tables.proofs.strings.strings_broken.Given as goal
 
 abbrev pub invariant-loop-s : goal.invariant-loop-s
 invariant-loop-s l =
-    (l.s ≤ pairs l.strings) × (rest (string_bad l.strings l.bytes) (pairs l.strings) l.s ≡ broken (string_bad l.strings l.bytes) (pairs l.strings))
-    × (l.s < 1024 → Chained (hash_at l.strings l.bytes) l.hashes l.heads l.next l.s)
-
-abbrev pub decreases-loop-s : goal.decreases-loop-s
-decreases-loop-s l = pairs l.strings - l.s
+    (rest (string_bad l.strings l.bytes) (pairs l.strings) l.s ≡ broken (string_bad l.strings l.bytes) (pairs l.strings))
+    × (l.s < 1024 → Chained (hash_at l.strings l.bytes) l.chains l.s)

@@ -1,7 +1,0 @@
-use Prim.Native.Nat.{◌-◌}
-use lib.ListN.{length}
-use Rattle.codegen_test.proofs.untouched.Given as goal
-
--- The loop ends with the words. Assumes nothing.
-abbrev pub decreases-loop-k : goal.decreases-loop-k
-decreases-loop-k l = length l.out - l.k

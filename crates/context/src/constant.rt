@@ -1,0 +1,78 @@
+// add_const and push_load_const, and the two opcodes that import.
+ghost use Rattle.std.specs.Prelude.{◌≡◌};
+ghost use Rattle.tables.specs.Record.{word};
+ghost use Rattle.pool.specs.ConstValues.{words_of, lit_of};
+ghost use Rattle.pool.specs.declared.value.ConstValue.TheVariants.{Null as NullValue, Str as StrValue};
+
+use crate::Context;
+use crate::word::capped;
+use opcode::index::ConstId;
+use opcode::opcode::OpCode;
+use pool::consts;
+use pool::consts::ConstWords;
+use pool::value::{ConstValue, LitKind};
+use tables::ast::{detail, p, q};
+
+impl Context<'_> {
+    ghost use Rattle.context.specs.Sinks.{const_index, with_const, loads};
+
+    // An equal value's index, or the next one.
+    fn add_const(&mut self, recs: &[u32], value: ConstValue) -> ConstId
+        ensures index { result.0 ≡ const_index recs.now (words_of value) self.old }
+        ensures context { self.new ≡ with_const recs.now (words_of value) self.old }
+    {
+        let n = self.const_count as usize;
+        let added = consts::add_const(recs, self.consts, n, ConstWords::from(value));
+        self.const_count = capped(added.count);
+        ConstId(capped(added.index))
+    }
+
+    #[tactic(auto, unfolding(crate::specs::Sinks::loads, crate::specs::Sinks::pushed))]
+    pub fn push_load_const(&mut self, recs: &[u32], value: ConstValue)
+        ensures { self.new ≡ loads recs.now 6 (words_of value) self.old }
+    {
+        if self.writes() {
+            let const_id = self.add_const(recs, value);
+            self.push_op(OpCode::LoadConst(const_id))
+        }
+    }
+
+    // visit_lit
+    pub fn push_lit(&mut self, recs: &[u32], lit: usize)
+        ensures { self.new ≡ loads recs.now 6
+            (words_of (lit_of (word recs.now lit 1) (word recs.now lit 2) (word recs.now lit 3))) self.old }
+    {
+        let kind = LitKind {
+            detail: detail(recs, lit),
+            p: p(recs, lit),
+            q: q(recs, lit),
+        };
+        self.push_load_const(recs, ConstValue::from(kind))
+    }
+
+    pub fn push_null(&mut self, recs: &[u32])
+        ensures { self.new ≡ loads recs.now 6 (words_of NullValue) self.old }
+    {
+        self.push_load_const(recs, ConstValue::Null)
+    }
+
+    #[tactic(auto, unfolding(crate::specs::Sinks::loads, crate::specs::Sinks::pushed))]
+    pub fn push_import(&mut self, recs: &[u32], path: u32)
+        ensures { self.new ≡ loads recs.now 32 (words_of (StrValue path)) self.old }
+    {
+        if self.writes() {
+            let const_id = self.add_const(recs, ConstValue::Str(path));
+            self.push_op(OpCode::Import(const_id))
+        }
+    }
+
+    #[tactic(auto, unfolding(crate::specs::Sinks::loads, crate::specs::Sinks::pushed))]
+    pub fn push_import_from(&mut self, recs: &[u32], name: u32)
+        ensures { self.new ≡ loads recs.now 33 (words_of (StrValue name)) self.old }
+    {
+        if self.writes() {
+            let const_id = self.add_const(recs, ConstValue::Str(name));
+            self.push_op(OpCode::ImportFrom(const_id))
+        }
+    }
+}

@@ -1,4 +1,0 @@
-use Rattle.listing.proofs.text.+hex.Given as goal
-
-abbrev pub decreases-hex : goal.decreases-hex
-decreases-hex l = l.count

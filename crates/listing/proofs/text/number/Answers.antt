@@ -1,7 +1,0 @@
-use native.Mathlib.Omega.{arith}
-use Rattle.listing.proofs.PrintLaws.{same}
-use Rattle.listing.proofs.DecimalLaws.{decimal_one}
-use Rattle.listing.proofs.text.number.Goals as goal
-
-pub returns-then-n-lt-TEN : goal.returns-then-n-lt-TEN
-returns-then-n-lt-TEN c = same (decimal_one _ (omega arith)) c.put.ensures
