@@ -38,7 +38,7 @@ use Rattle.codegen.proofs.ReadyLaws.{tables_kept, few_errors, run_bounds, space_
 use Rattle.codegen.proofs.PreparedLaws.{Named, named_of}
 use Rattle.codegen.proofs.PrefixLaws.{whole, some_met, count_inside, count_fits, names_copied, lines_same}
 
--- ---- the numbers that the frame tells are exact
+-- ---- the numbers that a judged run tells are exact
 
 -- the functions met have numbers below 256
 pub few_met : (ns recs : List ℕ) → Ready ns recs → met_of (noted_run ns recs) ≤ 256
@@ -94,7 +94,7 @@ listing t recs Go e q = refl
 listing t recs (Cut k a b) e q = refl
 listing t recs (Halted x r) e q = absurd q
 
--- ---- what is made of accepted tables, and how the frame tells the run's end
+-- ---- what is made of accepted tables, and how a judged run tells its end
 
 module _ (symbols references functions members recs : List ℕ) (sound : Sound symbols references functions members recs) where
   abbrev t : Semantic

@@ -62,15 +62,20 @@ stream_written ns recs n x own code cs code' cs' c f g h =
       counted = w.entries ∙ ap (λ (ms : List Mark). length (consts ms)) (sym e);
     }
 
--- its line
-pub line_laid : (recs : List ℕ) (spans : List Span) (n r : ℕ) (x : Stream) → x.number ≡ n → r ≡ x.at → (s : Span) (a b k d : ℕ) (ys ws : List ℕ)
-    → n * 7 + 7 ≤ length ws → ys ≡ put_entry ws n (a ∷ b ∷ k ∷ s.locals ∷ s.globals ∷ s.upvalues ∷ d ∷ []) → a ≡ length x.marks → b ≡ x.labels
-    → k ≡ length (consts x.marks) → s ≡ span_of spans n → d ≡ loop_depth (own_tree (children recs r)) → ys ≡ over_at (n * 7) (line_of recs spans x) ws
-line_laid recs spans n r x p q s a b k d ys ws h e e1 e2 e3 e4 e5 =
-    e ∙ put_at ws n (a ∷ b ∷ k ∷ s.locals ∷ s.globals ∷ s.upvalues ∷ d ∷ []) h ∙ ap (λ (l : List ℕ). over_at (n * 7) l ws) same
-  where
-    same : (a ∷ b ∷ k ∷ s.locals ∷ s.globals ∷ s.upvalues ∷ d ∷ []) ≡ line_of recs spans x
-    same = rw (e1, e2, e3, e4, e5, ← p, q)
+-- its line: in words of its own, and as an entry of the lines
+module _ (recs : List ℕ) (spans : List Span) (n r : ℕ) (x : Stream) (p : x.number ≡ n) (q : r ≡ x.at) (s : Span) (a b k d : ℕ) (ys ws : List ℕ) where
+  line_words : a ≡ length x.marks → b ≡ x.labels → k ≡ length (consts x.marks) → s ≡ span_of spans n → d ≡ loop_depth (own_tree (children recs r))
+      → (a ∷ b ∷ k ∷ s.locals ∷ s.globals ∷ s.upvalues ∷ d ∷ []) ≡ line_of recs spans x
+  line_words e1 e2 e3 e4 e5 = rw (e1, e2, e3, e4, e5, ← p, q)
+
+  pub line_laid : ys ≡ over (a ∷ b ∷ k ∷ s.locals ∷ s.globals ∷ s.upvalues ∷ d ∷ []) ws → a ≡ length x.marks → b ≡ x.labels
+      → k ≡ length (consts x.marks) → s ≡ span_of spans n → d ≡ loop_depth (own_tree (children recs r)) → ys ≡ over (line_of recs spans x) ws
+  line_laid e e1 e2 e3 e4 e5 = e ∙ ap (λ (l : List ℕ). over l ws) (line_words e1 e2 e3 e4 e5)
+
+  pub line_put : n * 7 + 7 ≤ length ws → ys ≡ put_entry ws n (a ∷ b ∷ k ∷ s.locals ∷ s.globals ∷ s.upvalues ∷ d ∷ []) → a ≡ length x.marks → b ≡ x.labels
+      → k ≡ length (consts x.marks) → s ≡ span_of spans n → d ≡ loop_depth (own_tree (children recs r)) → ys ≡ over_at (n * 7) (line_of recs spans x) ws
+  line_put h e e1 e2 e3 e4 e5 =
+      e ∙ put_at ws n (a ∷ b ∷ k ∷ s.locals ∷ s.globals ∷ s.upvalues ∷ d ∷ []) h ∙ ap (λ (l : List ℕ). over_at (n * 7) l ws) (line_words e1 e2 e3 e4 e5)
 
 -- function n, from some places on
 module _ (ns recs places : List ℕ) (ready : Ready ns recs) (placed : Places recs places) (n : ℕ) (from : Reached) (markers constants lines : List ℕ)

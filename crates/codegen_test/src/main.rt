@@ -3,7 +3,7 @@
 #![tactic(auto)]
 
 use codegen::call::{Answer, gen_code};
-use replay::case::{Case, Cases, front, narrow, rest};
+use replay::case::{Case, Cases, front, narrowed, rest};
 use replay::input::read;
 use replay::print::{refused, unreadable};
 use std::alloc::{AllocError, Global};
@@ -133,7 +133,7 @@ fn call(case: Case, bytes: &[u8], out: &mut Outputs) -> Answer {
 }
 
 fn one(rt: &(impl Print + AllocGlobal), case: Case) -> io::Result<()> {
-    let Some(bytes) = narrow(rt.alloc(), case.table(1), BYTES)? else {
+    let Some(bytes) = narrowed(rt.alloc(), case.table(1), BYTES)? else {
         return unreadable(rt);
     };
     let mut out = Outputs::new(rt.alloc(), case)?;

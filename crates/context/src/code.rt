@@ -15,13 +15,7 @@ impl Context<'_> {
     pub fn writes(&self) -> bool
         ensures { result ≡ writes_of self.now }
     {
-        if self.nest {
-            return false;
-        }
-        if self.goes_on() {
-            return self.marker_count < u32::MAX;
-        }
-        false
+        !self.nest && self.goes_on() && self.marker_count < u32::MAX
     }
 
     // The two words of a marker at its place, where there is room.

@@ -1,14 +1,19 @@
 -- The forms of leaves' contracts. A label is a word for whatever number it stands for. Definitions only.
 use Rattle.std.specs.Prelude.{◌≡◌, List, ℕ}
-use Rattle.tables.specs.Record.{word}
-use Rattle.tables.specs.Forest.{forest, own_tree}
+use Rattle.tables.specs.Record.{Words, word, words}
+use Rattle.tables.specs.Forest.{forest, Nodes, own_tree, children}
 use Rattle.pool.specs.Value.{Value}
-use Rattle.rules.specs.Step.{width}
+use Rattle.rules.specs.Step.{Step, width}
 use Rattle.rules.specs.Run.{State}
 use Rattle.context.specs.Words.{cap}
-use Rattle.context.specs.Rep.{Lent, Moves}
+use Rattle.context.specs.Rep.{Lent, lent_words, Moves, Sim}
+use Rattle.context.specs.Does.{does}
 use Rattle.context.specs.declared.Context.{Context}
 use Rattle.plain.specs.Runs.{safe_run, item_run, registering}
+
+-- a leaf of record r that names nothing: whatever the notes
+abbrev pub Leaf : List ℕ → Context → Context → ℕ → (Words → Nodes → List Step) → Type 0
+Leaf recs x x' r steps = (notes : List ℕ) → Sim (lent_words recs notes) x x' (λ c. does (lent_words recs notes) c r (steps (words recs r) (own_tree (children recs r))))
 
 -- a leaf of whatever record that names two labels
 pub record WithLabels (recs : List ℕ) (w w' : Context) (l m : ℕ) (f : ℕ → ℕ → ℕ → State → State) : Type 0 where

@@ -5,7 +5,7 @@ ghost use Rattle.rules.specs.Arms.{effect_steps, break_steps, continue_steps, pa
 ghost use Rattle.context.specs.Rep.{lent, Moves};
 ghost use Rattle.context.specs.Does.{Arm};
 ghost use Rattle.plain.specs.Runs.{register as register_of, return_run};
-ghost use Rattle.plain.specs.Leaves.{Registers};
+ghost use Rattle.plain.specs.Leaves.{Leaf, Registers};
 
 use crate::children::first_child;
 use crate::siblings::{last, width};
@@ -31,7 +31,7 @@ pub fn effect(tree: &Tree, cx: &mut Context, r: usize)
 
 // ExprKind::Break
 pub fn break_loop(tree: &Tree, cx: &mut Context, r: usize)
-    ensures { Arm tree.now cx.old cx.new r (λ sc. break_steps) }
+    ensures { Leaf tree.now.records.now cx.old cx.new r break_steps }
 {
     let Some(label) = cx.break_label() else {
         return cx.cut(tree.records, error::BREAK_OUTSIDE_LOOP, r);
@@ -42,7 +42,7 @@ pub fn break_loop(tree: &Tree, cx: &mut Context, r: usize)
 
 // ExprKind::Continue
 pub fn continue_loop(tree: &Tree, cx: &mut Context, r: usize)
-    ensures { Arm tree.now cx.old cx.new r (λ sc. continue_steps) }
+    ensures { Leaf tree.now.records.now cx.old cx.new r continue_steps }
 {
     let Some(label) = cx.continue_label() else {
         return cx.cut(tree.records, error::CONTINUE_OUTSIDE_LOOP, r);

@@ -1,12 +1,12 @@
--- Whether there is room for all names and slots hold them: the tests one after the other, and what they say together. Assumes nothing.
-use mathlib.Core.Path.{◌≡◌, refl, ap}
+-- Whether there is room for all names and slots hold them: what the tests say together. Assumes nothing.
+use mathlib.Core.Path.{◌≡◌, refl}
 use mathlib.Core.Bool.{Bool, true, false, ◌&&◌}
 use mathlib.Core.List.{List, [], ◌∷◌}
-use Prim.Native.Nat.{ℕ, zero, suc, ◌*◌, ◌^◌, ◌≤◌, ◌<◌, min}
+use Prim.Native.Nat.{ℕ, zero, suc, ◌*◌, ◌≤◌, ◌<◌}
 use native.Mathlib.Omega.{arith}
 use lib.ListN.{length, get_or}
 use lib.Dec.{leb, ltb, eqb}
-use borrow.Author.Tests.{lt-ltb, ltb-true, eqb-true, eq-eqb, ne_eqb, le-leb, lt-leb, leb-true}
+use borrow.Author.Tests.{lt-ltb, ltb-true, eqb-true, eq-eqb, le-leb, leb-true}
 use Rattle.tables.proofs.CheckLaws.{Kept}
 use Rattle.pool.specs.Names.{Semantic, semantic, function_count, start_of_share}
 use Rattle.pool.specs.NameWords.{under, fits}
@@ -26,40 +26,8 @@ at_under : (n : ℕ) (xs : List ℕ) → ((m : ℕ) → m < length xs → get_or
 at_under n [] h = refl
 at_under n (x ∷ xs) h = rw (lt-ltb x n (h 0 (omega arith))) (at_under n xs (λ m p. h (suc m) (omega arith)))
 
--- each test that fails, and all of them
+-- what the tests say together
 module _ (t : Semantic) (entries spans : ℕ) where
-  pub many_functions : 256 < function_count t → false ≡ fits t entries spans
-  unfolding fits
-  many_functions h = rw (lt-leb _ _ h)
-
-  module _ (a : function_count t ≤ 256) where
-    pub many_members : 1024 < length t.members → false ≡ fits t entries spans
-    unfolding fits
-    many_members h = rw (le-leb _ _ a, lt-leb _ _ h)
-
-    module _ (b : length t.members ≤ 1024) where
-      pub few_entries : entries < length t.members * 3 → false ≡ fits t entries spans
-      unfolding fits
-      few_entries h = rw (le-leb _ _ a, le-leb _ _ b, lt-leb _ _ h)
-
-      module _ (c : length t.members * 3 ≤ entries) where
-        pub few_spans : spans < function_count t → false ≡ fits t entries spans
-        unfolding fits
-        few_spans h = rw (le-leb _ _ a, le-leb _ _ b, le-leb _ _ c, lt-leb _ _ h)
-
-        module _ (d : function_count t ≤ spans) (n sum : ℕ) (e : n ≡ function_count t) (s : sum ≡ min (start_of_share t n) (2 ^ 63)) where
-          pub uncounted : (sum ≡ length t.members → ⊥) → false ≡ fits t entries spans
-          unfolding fits
-          uncounted h =
-              let q : start_of_share t (function_count t) ≡ length t.members → ⊥ = λ z. h (omega (arith, ap (start_of_share t) e)) in
-              rw (le-leb _ _ a, le-leb _ _ b, le-leb _ _ c, le-leb _ _ d, ne_eqb (start_of_share t (function_count t)) (length t.members) q)
-
-          pub counted : sum ≡ length t.members → under 1024 t.members ≡ fits t entries spans
-          unfolding fits
-          counted h =
-              let q : start_of_share t (function_count t) ≡ length t.members = omega (arith, ap (start_of_share t) e) in
-              rw (le-leb _ _ a, le-leb _ _ b, le-leb _ _ c, le-leb _ _ d, eq-eqb (start_of_share t (function_count t)) (length t.members) q)
-
   pub fits_all : fits t entries spans ≡ true → Fits t entries spans
   unfolding fits
   fits_all e =

@@ -167,27 +167,18 @@ fn under_limit(members: &[u32]) -> bool
 }
 
 // Whether there is room for all names, and slots hold them.
+#[tactic(auto, unfolding(crate::specs::NameWords::fits))]
 fn fits(functions: &[u32], members: &[u32], entries: usize, spans: usize) -> bool
     ensures { result ≡ fits_of (semantic [] [] functions.now members.now) entries spans }
 {
     let n = pairs(functions);
     let size = members.len();
-    if 256 < n {
-        return false;
-    }
-    if 1024 < size {
-        return false;
-    }
-    if entries < size * 3 {
-        return false;
-    }
-    if spans < n {
-        return false;
-    }
-    if share_start(functions, n) != size {
-        return false;
-    }
-    under_limit(members)
+    n <= 256
+        && size <= 1024
+        && size * 3 <= entries
+        && n <= spans
+        && share_start(functions, n) == size
+        && under_limit(members)
 }
 
 // Function by function: its names are stamped, its Idents noted, and the functions inside it named. A function is named in its parent's turn.

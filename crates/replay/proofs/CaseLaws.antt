@@ -4,8 +4,8 @@ use mathlib.Core.Path.{◌≡◌, sym, ap, ◌∙◌}
 use mathlib.Core.List.{List}
 use Prim.Native.Nat.{ℕ, suc, ◌+◌, ◌≤◌, ◌<◌, min}
 use native.Mathlib.Omega.{arith}
-use lib.ListN.{length, get_or, drop}
-use lib.Seq.{drop-cons}
+use lib.ListN.{length, get_or, set, drop}
+use lib.Seq.{drop-cons, paste, paste-suc}
 use borrow.Author.Tests.{le-leb}
 use Rattle.replay.specs.Case.{start, all_bytes}
 
@@ -23,3 +23,11 @@ byte_more ws k h g e =
     let z : suc k ≡ k + 1 = omega arith in
     e ∙ ap all_bytes (drop-cons ws k 0 h) ∙ ap (λ (b : Bool). b && all_bytes (drop (suc k) ws)) (le-leb (get_or ws k 0) 255 g)
     ∙ ap (λ (n : ℕ). all_bytes (drop n ws)) z
+
+-- one byte more is written
+pub laid_more : (ws bs bs₀ : List ℕ) (k : ℕ) → k < length ws → k < length bs₀ → bs ≡ paste bs₀ 0 ws k → set bs k (get_or ws k 0) ≡ paste bs₀ 0 ws (k + 1)
+laid_more ws bs bs₀ k h g e =
+    let z : suc k ≡ k + 1 = omega arith in
+    let o : k ≡ 0 + k = omega arith in
+    ap (λ (l : List ℕ). set l k (get_or ws k 0)) e ∙ ap (λ (i : ℕ). set (paste bs₀ 0 ws k) i (get_or ws k 0)) o
+    ∙ paste-suc bs₀ 0 ws k 0 (omega arith) h ∙ ap (λ (n : ℕ). paste bs₀ 0 ws n) z

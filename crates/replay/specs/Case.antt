@@ -1,5 +1,5 @@
 -- A case in words. Definitions only.
-use Rattle.std.specs.Prelude.{Bool, true, ◌&&◌, List, [], ◌∷◌, ℕ, zero, suc, ◌+◌, length, get_or, take, drop, leb}
+use Rattle.std.specs.Prelude.{Bool, true, ◌&&◌, List, [], ◌∷◌, ◌++◌, ℕ, zero, suc, ◌+◌, length, get_or, take, drop, leb}
 
 -- where a table begins: behind the numbers and the tables before it
 unfoldable pub start : List ℕ → ℕ → ℕ → ℕ
@@ -17,3 +17,7 @@ all_bytes (x ∷ xs) = leb x 255 && all_bytes xs
 -- and there is room for them
 abbrev pub are_bytes : List ℕ → ℕ → Bool
 are_bytes ws room = leb (length ws) room && all_bytes ws
+
+-- words over the front of others
+abbrev pub laid : List ℕ → List ℕ → List ℕ
+laid ws bs = ws ++ drop (length ws) bs

@@ -1,7 +1,7 @@
 // A case in words: first its numbers, of which the first seven are the lengths of tables 1 to 7, then the words of these tables.
-ghost use Rattle.std.specs.Prelude.{◌≡◌, ◌+◌, ◌<◌, min, length, get_or, take, drop, is_some, IfOk, IfSome};
+ghost use Rattle.std.specs.Prelude.{◌≡◌, true, ◌+◌, ◌<◌, min, length, get_or, take, drop, is_some, IfOk, IfSome};
 ghost use Rattle.std.specs.Iterator.{at_most};
-ghost use Rattle.replay.specs.Case.{start as start_of, table as table_of, are_bytes};
+ghost use Rattle.replay.specs.Case.{start as start_of, table as table_of, are_bytes, laid};
 
 use std::alloc::{AllocError, Global};
 use tables::semantic::entry;
@@ -74,7 +74,10 @@ pub struct Cases<'a> {
 }
 
 impl<'a> Cases<'a> {
-    pub fn new(words: &'a [u32], numbers: usize) -> Self {
+    pub fn new(words: &'a [u32], numbers: usize) -> Self
+        ensures words { result.words.now ≡ words.now }
+        ensures numbers { result.numbers ≡ numbers }
+    {
         Cases { words, numbers }
     }
 }
@@ -103,8 +106,26 @@ impl<'a> Iterator for Cases<'a> {
     }
 }
 
-// The words as bytes, where each is one and they are no more than there is room for.
-pub fn narrow(alloc: Global, words: &[u32], room: usize) -> Result<Option<Vec<u8>>, AllocError>
+// The words as bytes, where each is one and there is room; else what is written is free.
+pub fn narrow(words: &[u32], bytes: &mut [u8]) -> bool
+    ensures answer { result ≡ are_bytes words.now (length bytes.old) }
+    ensures written { result ≡ true → bytes.new ≡ laid words.now bytes.old }
+{
+    for k in 0..words.len() {
+        if bytes.len() <= k {
+            return false;
+        }
+        let value = words[k];
+        if BYTE < value {
+            return false;
+        }
+        bytes[k] = value as u8;
+    }
+    true
+}
+
+// The same into memory of their own, where they are no more than there is room for.
+pub fn narrowed(alloc: Global, words: &[u32], room: usize) -> Result<Option<Vec<u8>>, AllocError>
     ensures answer { IfOk result (λ bytes. is_some bytes ≡ are_bytes words.now room) }
     ensures written { IfOk result (λ bytes. IfSome bytes (λ b. b.items ≡ words.now)) }
 {

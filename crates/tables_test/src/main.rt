@@ -1,7 +1,7 @@
 // Replays cases of the checks: for each case of the input seven lengths and the words of tables 1 to 7, answered by `ok` or a refusal's number and place.
 #![tactic(auto)]
 
-use replay::case::{Case, Cases, narrow};
+use replay::case::{Case, Cases, narrowed};
 use replay::input::read;
 use replay::print::{refused, unreadable};
 use std::io;
@@ -23,7 +23,7 @@ fn answer(rt: &impl Print, checked: Result<(), Refusal>) -> io::Result<()> {
 }
 
 fn one(rt: &(impl Print + AllocGlobal), case: Case) -> io::Result<()> {
-    let Some(bytes) = narrow(rt.alloc(), case.table(1), BYTES)? else {
+    let Some(bytes) = narrowed(rt.alloc(), case.table(1), BYTES)? else {
         return unreadable(rt);
     };
     let checked = check(&Tables {

@@ -188,12 +188,12 @@ arm-returns-in-18 t c =
 pub arm-returns-in-19 : goal.arm-returns-in-19
 arm-returns-in-19 t c =
     resim (λ v z A. later_by (lent c.args.tree.now) v c.args.r (sym c.kind.ensures ∙ c.in-19.is) A)
-    c.break_loop.ensures
+    (c.break_loop.ensures c.args.tree.now.notes.now)
 
 pub arm-returns-in-20 : goal.arm-returns-in-20
 arm-returns-in-20 t c =
     resim (λ v z A. later_by (lent c.args.tree.now) v c.args.r (sym c.kind.ensures ∙ c.in-20.is) A)
-    c.continue_loop.ensures
+    (c.continue_loop.ensures c.args.tree.now.notes.now)
 
 pub arm-returns-in-21 : goal.arm-returns-in-21
 arm-returns-in-21 t c =

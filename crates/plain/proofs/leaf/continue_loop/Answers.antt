@@ -12,7 +12,7 @@ use Rattle.plain.proofs.leaf.continue_loop.Goals as goal
 pub returns-in_default : goal.returns-in_default
 unfolding does doing exec
 returns-in_default c =
-    record {
+    λ notes. record {
       sim = λ z m o₀ A h. cut_off c.args.r (words c.args.tree.now.records.now c.args.r) Continue (mark c.args.r (Load LoadConst Null)) c.continue_label.ensures
           c.in_default.is c.cut.ensures h;
     }
@@ -20,7 +20,7 @@ returns-in_default c =
 pub returns : goal.returns
 unfolding does doing exec
 returns c =
-    record {
+    λ notes. record {
       sim = λ z m o₀ A h.
           let h1 = left_some c.args.r (words c.args.tree.now.records.now c.args.r) Continue c.continue_label.ensures h c.in-Some.is refl c.push_op.ensures in
           nulled c.args.r c.push_null.ensures h1;
