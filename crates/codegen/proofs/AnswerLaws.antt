@@ -46,25 +46,21 @@ module _ (strings bytes symbols references functions members records : List ℕ)
   unfolding checked_of
   table_checked b i e q = halt Table b _ (refusing Space space rows) i e q
 
-  module _ (b : Option ℕ) (e : b ≡ lent_broken strings bytes symbols references functions members records) (q : b ≡ None) (n : ℕ) (g : n ≡ size records)
-      (d : Option ℕ) (h : d ≡ space_broken n (length members) (pairs functions) markers constants names errors lines) where
-    said : d ≡ space
-    said = h ∙ ap (λ (k : ℕ). space_broken k (length members) (pairs functions) markers constants names errors lines) g
-
+  module _ (b : Option ℕ) (e : b ≡ lent_broken strings bytes symbols references functions members records) (q : b ≡ None) (d : Option ℕ) (h : d ≡ space) where
     well : refusing Space space rows ≡ checks
     unfolding checked_of
     well = skip Table b _ (refusing Space space rows) e q
 
     -- row 2
     pub space_checked : (i : ℕ) → d ≡ Some i → Err (Space i) ≡ checks
-    space_checked i r = halt Space d _ rows i said r ∙ well
+    space_checked i r = halt Space d _ rows i h r ∙ well
 
     -- rows 3 to 9
     pub rows_checked : d ≡ None → (x : Checked) → (size records ≤ 4096 → 0 < size records → x ≡ rows_of strings bytes symbols references functions members records)
         → x ≡ checks
     rows_checked r x w =
         let f = fit strings bytes symbols references functions members records (sym e ∙ q) in
-        w f.records_limit f.records_some ∙ skip Space d _ rows said r ∙ well
+        w f.records_limit f.records_some ∙ skip Space d _ rows h r ∙ well
 
   -- the answer
   pub refused_answer : (x : Checked) (why : Refusal) → x ≡ checks → x ≡ Err why

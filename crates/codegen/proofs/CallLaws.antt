@@ -8,7 +8,7 @@ use mathlib.Core.Bool.{Bool, true, false}
 use mathlib.Core.List.{List, [], ◌∷◌}
 use Prim.Native.Nat.{ℕ, ◌*◌, ◌≤◌, ◌<◌}
 use native.Mathlib.Omega.{arith}
-use lib.ListN.{length}
+use lib.ListN.{length, replicate, length-replicate}
 use lib.Dec.{ltb}
 use borrow.Author.Tests.{ltb-true, ltb-false}
 use Rattle.tables.specs.Record.{size}
@@ -19,6 +19,7 @@ use Rattle.pool.specs.Names.{Semantic, semantic}
 use Rattle.pool.specs.NameWords.{over, fits}
 use Rattle.pool.specs.Resolve.{Blank, Resolved, Resolves}
 use Rattle.pool.proofs.FitLaws.{kept_fits, kept_grown}
+use Rattle.pool.proofs.ResolveLaws.{blank_zeros}
 use Rattle.rules.specs.declared.Flow.{Flow}
 use Rattle.rules.specs.declared.Flow.TheVariants.{Go, Cut, Refused as Halted}
 use Rattle.rules.specs.Run.{Side, State, flow, side, look}
@@ -101,7 +102,8 @@ module _ (symbols references functions members recs : List ℕ) (sound : Sound s
   t = semantic symbols references functions members
 
   -- the names stand where they should, and the notes are those of the tables
-  module _ (ws : List ℕ) (sp : List Span) (ns ws' : List ℕ) (sp' : List Span) (ns' : List ℕ) (wide : length ws ≡ 3072) (long : length sp ≡ 256) (blank : Blank ns) (h : Resolves t recs ws sp ns ws' sp' ns') where
+  module _ (ws : List ℕ) (sp : List Span) (ns ws' : List ℕ) (sp' : List Span) (ns' : List ℕ) (wide : length ws ≡ 3072) (long : length sp ≡ 256)
+      (blank : Blank ns) (h : Resolves t recs ws sp ns ws' sp' ns') where
     room : fits t (length ws) (length sp) ≡ true
     room =
         kept_fits sound.strings sound.bytes symbols references functions members recs (tables_kept symbols references functions members recs sound) (length ws)
@@ -114,6 +116,18 @@ module _ (symbols references functions members recs : List ℕ) (sound : Sound s
 
     pub names_made : Named t ws' sp'
     names_made = named_of t (whole symbols references functions members recs sound) ws sp ws' sp' room h.entries h.spans
+
+  -- .. made in words of zeros and in spans that are the same
+  module _ (z : Span) (ws' : List ℕ) (sp' : List Span) (ns' : List ℕ) (h : Resolves t recs (replicate 3072 0) (replicate 256 z) (replicate 12288 0) ws' sp' ns') where
+    pub notes_fresh : Resolved t recs ns'
+    notes_fresh =
+        notes_made (replicate 3072 0) (replicate 256 z) (replicate 12288 0) ws' sp' ns' (length-replicate {A = ℕ} 3072 0)
+        (length-replicate {A = Span} 256 z) (blank_zeros (replicate 12288 0) refl) h
+
+    pub names_fresh : Named t ws' sp'
+    names_fresh =
+        names_made (replicate 3072 0) (replicate 256 z) (replicate 12288 0) ws' sp' ns' (length-replicate {A = ℕ} 3072 0)
+        (length-replicate {A = Span} 256 z) (blank_zeros (replicate 12288 0) refl) h
 
   module _ (ns : List ℕ) (noted : Resolved t recs ns) (j : Judged) (w : Walked (noted_run ns recs) j) (f : Flow) (e : f ≡ j.flow) where
     pub flow_noted : f ≡ flow (noted_run ns recs)

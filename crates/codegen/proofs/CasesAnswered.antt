@@ -40,5 +40,8 @@ all_answered (c ∷ cs) =
     && (is_answer (called c (64 * size c.records - 1)) 2 (0 ∷ 0 ∷ 0 ∷ []) && all_answered cs)
 
 pub cases_answered : T (all_answered cases)
-unfolding refusing rows_of unfit lent_broken same_string equal_earlier string_bad symbol_bad reference_bad parent_bad own_start twice member_bad entries_broken right_detail right_links fits right_children one named_by manner visited guarded first next grow forest share_start find seen intern index_of with_symbol with_symbols names_upto names load store steps emit bump halt begin finish outward barred kept nested exec stream run consts marker_words const_words plain_names upvalue_words error_words loop_depth stream_numbered each_function outcome scarce space_broken checked_of answer_of
+unfolding refusing rows_of unfit lent_broken same_string equal_earlier string_bad symbol_bad reference_bad parent_bad own_start twice member_bad entries_broken right_detail
+    right_links fits right_children one named_by manner visited guarded first next grow forest share_start find seen intern index_of with_symbol with_symbols names_upto names load
+    store steps emit bump halt begin finish outward barred kept nested exec stream run consts marker_words const_words plain_names upvalue_words error_words loop_depth
+    stream_numbered each_function outcome scarce space_broken checked_of answer_of
 cases_answered = tt

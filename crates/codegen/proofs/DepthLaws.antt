@@ -96,9 +96,6 @@ module _ (recs : List ℕ) where
   onward_few x l (inl e) = omega (arith, deep_absent recs l e)
   onward_few x l (inr (p, q)) = omega (arith, few recs l q)
 
-  pub done_none : (a : List ℕ) → Roomed recs a → Done recs a (size recs)
-  done_none a z = record { roomed = z; done = λ x p some q. absurd (omega arith) }
-
   -- what is inside a record is less deep than the largest word
   done_few : (a : List ℕ) (x : ℕ) → Done recs a (suc x) → get_or a (first recs x) 0 < 4294967295
   done_few a x h = omega (
@@ -144,9 +141,6 @@ module _ (recs : List ℕ) where
   step_more a r k f n d p q h ek ef en e =
       let z : suc (r - 1) ≡ r = omega arith in
       done_more a (r - 1) k f n d (omega arith) (omega arith) (subst⁻¹ (λ (i : ℕ). Done recs a i) z h) ek ef en e
-
-  pub done_all : (a : List ℕ) (r : ℕ) → r ≤ 1 → Done recs a r → Depths recs a
-  done_all a r p h = record { roomed = h.roomed; depths = λ x some inside. h.done x (omega arith) some inside }
 
   -- the depth of a function's own tree, record 0's too
   pub read_deep : (a : List ℕ) (r : ℕ) → Depths recs a → get_or a (first recs r) 0 ≡ deep recs (first recs r)

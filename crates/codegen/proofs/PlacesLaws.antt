@@ -2,7 +2,7 @@
 use mathlib.Core.Path.{◌≡◌, sym, subst, ◌∙◌}
 use mathlib.Core.Bool.{true}
 use mathlib.Core.List.{List}
-use Prim.Native.Nat.{ℕ, ◌+◌, ◌≤◌, ◌<◌}
+use Prim.Native.Nat.{ℕ, ◌+◌, ◌<◌}
 use native.Mathlib.Omega.{arith}
 use native.Mathlib.Decide.{ℕ_discrete}
 use lib.ListN.{length, get_or, set, length-set}
@@ -11,7 +11,7 @@ use borrow.Author.Tests.{eqb-true, eq-eqb}
 use Rattle.tables.specs.Record.{words, word, size, is_function}
 use Rattle.tables.proofs.CheckLaws.{Kept}
 use Rattle.tables.proofs.NumberingLaws.{numbers_differ}
-use Rattle.codegen.specs.Places.{Numbered, Places}
+use Rattle.codegen.specs.Places.{Numbered}
 
 -- accepted tables number their functions
 pub kept_numbered : (strings bytes symbols references functions members records : List ℕ) → Kept strings bytes symbols references functions members records
@@ -28,9 +28,6 @@ pub record Laid (recs : List ℕ) (n i : ℕ) (table : List ℕ) : Type 0 where
   pub laid : (r : ℕ) → r < i → r < size recs → is_function (words recs r) ≡ true → get_or table (word recs r 2) 0 ≡ r
 
 module _ (recs : List ℕ) (n : ℕ) (own : Numbered recs n) where
-  pub number_fits : (r : ℕ) → r < size recs → word recs r 0 ≡ 30 → word recs r 2 < n
-  number_fits r h f = own.below r h (eq-eqb (word recs r 0) 30 f)
-
   pub laid_function : (a : List ℕ) (i p : ℕ) → i < size recs → word recs i 0 ≡ 30 → p ≡ word recs i 2 → Laid recs n i a → Laid recs n (i + 1) (set a p i)
   laid_function a i p inside f e h = subst (λ (j : ℕ). Laid recs n (i + 1) (set a j i)) (sym e) (record {
     long = length-set a (word recs i 2) i ∙ h.long;
@@ -52,6 +49,3 @@ module _ (recs : List ℕ) (n : ℕ) (own : Numbered recs n) where
       at : (r : ℕ) → r < i + 1 → r < size recs → is_function (words recs r) ≡ true → Dec (r ≡ i) → get_or a (word recs r 2) 0 ≡ r
       at r lt q g (yes z) = absurd (d (subst (λ (y : ℕ). word recs y 0 ≡ 30) z (eqb-true (word recs r 0) 30 g)))
       at r lt q g (no z) = h.laid r (omega arith) q g
-
-  pub laid_all : (a : List ℕ) (i : ℕ) → size recs ≤ i → Laid recs n i a → Places recs a
-  laid_all a i s h = record { places = λ r p f. h.laid r (omega arith) p f }

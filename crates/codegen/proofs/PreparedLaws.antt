@@ -10,7 +10,7 @@ use Rattle.std.proofs.lemmas.List.{get_or_at}
 use Rattle.pool.specs.declared.spans.Span.{Span}
 use Rattle.pool.specs.Names.{Semantic, Upvalue, Names, function_count, start_of_share, names, names_upto}
 use Rattle.pool.specs.NameWords.{over, span_of, no_span, span_for, words_of, all_entries, entries_of, spans_from, fits, entries_after, spans_after}
-use Rattle.pool.proofs.Basics.{on_true}
+use Rattle.std.proofs.lemmas.Bool.{cond-true}
 use Rattle.pool.proofs.EntryLaws.{words_length, words_append}
 use Rattle.pool.proofs.NameUpto.{names_length, spans_length, spans_snoc, entries_start}
 use Rattle.pool.proofs.NamesLaws.{names_take, names_next}
@@ -45,11 +45,11 @@ module _ (t : Semantic) (whole : start_of_share t (function_count t) ≡ length 
 
   spans_made : spans ≡ over (spans_from 0 all) sp
   unfolding spans_after
-  spans_made = spanned ∙ on_true _ _ _ room
+  spans_made = spanned ∙ cond-true _ _ _ room
 
   entries_made : entries ≡ over (words_of (all_entries all)) ws
   unfolding entries_after
-  entries_made = made ∙ on_true _ _ _ room
+  entries_made = made ∙ cond-true _ _ _ room
 
   -- where function f's names start, and how many they are
   counted_of : (f : ℕ) → f < function_count t → span_of spans f ≡ span_for (start_of_share t f) (names t f)

@@ -16,7 +16,6 @@ use Rattle.rules.specs.Out.{consts, loop_depth}
 use Rattle.context.specs.Words.{limit, cap}
 use Rattle.context.specs.Rep.{lay, Room}
 use Rattle.codegen.specs.declared.walks.Counted.{Counted}
-use Rattle.context.proofs.ConstLaws.{table_short}
 use Rattle.codegen.specs.declared.streams.Reached.{Reached}
 use Rattle.codegen.specs.Places.{Places}
 use Rattle.codegen.specs.Walks.{noted_run, single, Streamed}
@@ -86,9 +85,6 @@ module _ (ns recs places : List ℕ) (ready : Ready ns recs) (placed : Places re
   pub turn_own : Own ns recs n turned
   turn_own = ready.own n fit.met
 
-  pub turn_few : n < 256
-  turn_few = let o = turn_own in omega (arith, ready.numbered.below turned.at o.inside o.function, o.named)
-
   pub turn_place : get_or places n 0 ≡ turned.at
   turn_place = let o = turn_own in ap (λ (i : ℕ). get_or places i 0) (sym o.named) ∙ placed.places turned.at o.inside o.function
 
@@ -114,17 +110,3 @@ pub record InBounds (x : Stream) (n : Counted) (from : Reached) (markers constan
   pub short : length (consts x.marks) ≤ suc (length x.marks)
   pub markers_end : from.markers + length x.marks * 2 ≤ length markers
   pub constants_end : from.constants + length (consts x.marks) * 3 ≤ length constants
-
-pub turn_counted : (ns recs places : List ℕ) → Ready ns recs → Places recs places → (n : ℕ) (from : Reached) (markers constants lines : List ℕ)
-    → Turning (noted_run ns recs) markers constants lines n from → (code cs code' cs' : List ℕ) (c : Counted)
-    → Written (stream_of (noted_run ns recs) n) code cs code' cs' c → InBounds (stream_of (noted_run ns recs) n) c from markers constants
-turn_counted ns recs places ready placed n from markers constants lines fit code cs code' cs' c w =
-    let x = stream_of (noted_run ns recs) n in
-    record {
-      marked = w.marked;
-      counted = w.counted;
-      few = (ready.own n fit.met).few;
-      short = table_short x.marks;
-      markers_end = omega (arith, fit.markers_fit, markers_length (consts x.marks) x.marks);
-      constants_end = omega (arith, fit.constants_fit, constants_length (consts x.marks));
-    }

@@ -101,7 +101,8 @@ module _ (ns recs : List ℕ) where
       stream_walked {code'} {cs'} k l =
           let h = stream_rep in
           let n : Counted = record { markers = x'.marker_count; labels = x'.label_count; consts = x'.const_count } in
-          rw (k (sym (h.code ∙ ap (λ (y : Context). y.code.ghost_name) begun)), l (sym (h.consts ∙ ap (λ (y : Context). y.consts.ghost_name) begun))) (record { wrote = (h.flat refl).wrote; place = (h.flat refl).place; labels = h.labels })
+          rw (k (sym (h.code ∙ ap (λ (y : Context). y.code.ghost_name) begun)), l (sym (h.consts ∙ ap (λ (y : Context). y.consts.ghost_name) begun)))
+          (record { wrote = (h.flat refl).wrote; place = (h.flat refl).place; labels = h.labels })
 
 -- no error, no word
 pub none_noted : (ws : List ℕ) (es : List Error) (n : ℕ) → n ≡ length es → n ≤ 0 → ws ≡ note ws es

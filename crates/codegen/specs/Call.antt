@@ -6,6 +6,7 @@ use Rattle.tables.specs.Refusal.{number_of, place_of}
 use Rattle.tables.specs.Record.{size}
 use Rattle.tables.specs.Semantic.{pairs}
 use Rattle.tables.specs.Lent.{lent_broken}
+use Rattle.tables.specs.declared.lent.Tables.{Tables}
 use Rattle.tables.specs.Check.{refusing, rows_of}
 use Rattle.pool.specs.declared.spans.Span.{Span}
 use Rattle.pool.specs.Names.{Semantic, semantic}
@@ -19,6 +20,7 @@ use Rattle.codegen.specs.Demand.{Demand3On}
 use Rattle.codegen.specs.Space.{space_broken}
 use Rattle.codegen.specs.Names.{name_count}
 use Rattle.codegen.specs.Listing.{met_of, Spaced, Streams}
+use Rattle.codegen.specs.declared.outputs.Outputs.{Outputs}
 use Rattle.codegen.specs.declared.call.Answer.{Answer}
 use Rattle.codegen.specs.declared.call.Answer.TheVariants.{Listing, Refused}
 
@@ -28,6 +30,12 @@ checked_of strings bytes symbols references functions members records markers co
     refusing Table (lent_broken strings bytes symbols references functions members records)
     (refusing Space (space_broken (size records) (length members) (pairs functions) markers constants names errors lines)
     (rows_of strings bytes symbols references functions members records))
+
+-- .. of the tables and outputs that are lent
+abbrev pub checked_in : Tables → Outputs → Checked
+checked_in t o =
+    checked_of t.strings.now t.bytes.now t.symbols.now t.references.now t.functions.now t.members.now t.records.now (length o.markers.now)
+    (length o.constants.now) (length o.names.now) (length o.errors.now) (length o.lines.now)
 
 -- a table that they accept is run
 abbrev pub past : Checked → Answer → Answer
@@ -48,6 +56,11 @@ unfoldable pub answer_of : (strings bytes symbols references functions members r
 answer_of strings bytes symbols references functions members records markers constants names errors lines =
     past (checked_of strings bytes symbols references functions members records markers constants names errors lines)
     (ran_of (semantic symbols references functions members) records)
+
+abbrev pub answer_in : Tables → Outputs → Answer
+answer_in t o =
+    answer_of t.strings.now t.bytes.now t.symbols.now t.references.now t.functions.now t.members.now t.records.now (length o.markers.now)
+    (length o.constants.now) (length o.names.now) (length o.errors.now) (length o.lines.now)
 
 -- "A refusal gives number and place and changes no lent word."
 abbrev pub no_out : Out

@@ -1,3 +1,4 @@
+pub mod Outputs
 pub mod Walks
 pub mod Space
 pub mod Depth

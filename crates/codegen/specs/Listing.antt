@@ -1,5 +1,6 @@
 -- What is written function by function, and what its writing rests on. Definitions only.
 use Rattle.std.specs.Prelude.{◌≡◌, true, List, [], ◌∷◌, ◌++◌, ℕ, ◌+◌, ◌*◌, ◌≤◌, ◌<◌, length, take, drop}
+use Rattle.std.specs.Coded.{×_prop, Unit-prop, le_prop}
 use Rattle.tables.specs.Record.{word, words, size, is_function}
 use Rattle.tables.specs.Forest.{own_tree, children}
 use Rattle.pool.specs.declared.spans.Span.{Span}
@@ -10,6 +11,8 @@ use Rattle.rules.specs.Out.{consts, marker_words, const_words, loop_depth, strea
 use Rattle.context.specs.Words.{limit}
 use Rattle.codegen.specs.Places.{Numbered}
 use Rattle.codegen.specs.Walks.{noted_run, single, Walkable}
+use Rattle.codegen.specs.Outputs.{holding}
+use Rattle.codegen.specs.declared.outputs.Outputs.{Outputs}
 use Rattle.codegen.specs.declared.streams.Reached.{Reached}
 
 -- an operand that a word holds; a constant's index is one by the number of constants
@@ -24,6 +27,19 @@ Small (Do c n) = n ≤ limit
 abbrev pub AllSmall : List Mark → Type 0
 AllSmall [] = Unit {0}
 AllSmall (mark r x ∷ ms) = Small x × AllSmall ms
+
+-- of each, one fact at most: a struct may keep it
+Small-prop : (x : Op) → IsProp (Small x)
+Small-prop (Label l) = le_prop
+Small-prop (To h l) = le_prop
+Small-prop (Back l) = le_prop
+Small-prop (Leave x l) = le_prop
+Small-prop (Load c v) = Unit-prop
+Small-prop (Do c n) = le_prop
+
+pub AllSmall-prop : (ms : List Mark) → IsProp (AllSmall ms)
+AllSmall-prop [] = Unit-prop
+AllSmall-prop (mark r x ∷ ms) = ×_prop (Small-prop x) (AllSmall-prop ms)
 
 -- the words of one stream: "markers (code, operand or 0)", "constants (kind, two words ..)"
 abbrev pub markers_of : Stream → List ℕ
@@ -78,12 +94,26 @@ abbrev pub over_at : ℕ → List ℕ → List ℕ → List ℕ
 over_at i xs ws = take i ws ++ over xs (drop i ws)
 
 -- function n is written
-pub record Turned (A : State) (recs : List ℕ) (spans : List Span) (n : ℕ) (at : Reached) (markers markers' constants constants' lines lines' : List ℕ) (at' : Reached) : Type 0 where
-  pub markers_laid : markers' ≡ over_at at.markers (markers_of (stream_of A n)) markers
-  pub constants_laid : constants' ≡ over_at at.constants (constants_of (stream_of A n)) constants
-  pub lines_laid : lines' ≡ over_at (n * 7) (line_of recs spans (stream_of A n)) lines
-  pub next_marker : at'.markers ≡ at.markers + length (markers_of (stream_of A n))
-  pub next_constant : at'.constants ≡ at.constants + length (constants_of (stream_of A n))
+abbrev pub turned : (A : State) (recs : List ℕ) (spans : List Span) → ℕ → Reached → Outputs → Outputs
+turned A recs spans n at o = record o {
+  markers = holding o.markers (over_at at.markers (markers_of (stream_of A n)) o.markers.now);
+  constants = holding o.constants (over_at at.constants (constants_of (stream_of A n)) o.constants.now);
+  lines = holding o.lines (over_at (n * 7) (line_of recs spans (stream_of A n)) o.lines.now);
+}
+
+abbrev pub onward : State → ℕ → Reached → Reached
+onward A n at = record {
+  markers = at.markers + length (markers_of (stream_of A n));
+  constants = at.constants + length (constants_of (stream_of A n));
+}
+
+-- the first n functions are written
+abbrev pub upto : (A : State) (recs : List ℕ) (spans : List Span) → ℕ → Outputs → Outputs
+upto A recs spans n o = record o {
+  markers = holding o.markers (over (first_of A markers_of n) o.markers.now);
+  constants = holding o.constants (over (first_of A constants_of n) o.constants.now);
+  lines = holding o.lines (over (first_of A (line_of recs spans) n) o.lines.now);
+}
 
 -- "1 line per function" and the others are room enough
 pub record Spaced (A : State) (markers constants lines : List ℕ) : Type 0 where

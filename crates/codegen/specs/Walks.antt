@@ -12,6 +12,7 @@ use Rattle.context.specs.Rep.{lent_words, Room, Wrote, Scoped}
 use Rattle.codegen.specs.declared.walks.Judged.{Judged}
 use Rattle.codegen.specs.declared.walks.Counted.{Counted}
 use Rattle.context.specs.Does.{noted_look}
+use Rattle.context.specs.declared.tree.Tree.{Tree}
 
 -- the stack code that is generated; request 11 of document 02 makes it an argument of the call
 abbrev pub stack_code : StackCode
@@ -23,6 +24,9 @@ ran t recs = run stack_code (look t) recs
 
 abbrev pub noted_run : (ns recs : List ℕ) → State
 noted_run ns recs = run stack_code (noted_look ns) recs
+
+abbrev pub run_of : Tree → State
+run_of t = noted_run t.notes.now t.records.now
 
 -- the function at record r by itself, by the notes, the newest 128 open loops kept
 abbrev pub single : (ns recs : List ℕ) → ℕ → State

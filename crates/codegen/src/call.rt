@@ -1,12 +1,15 @@
 // The generator's call.
-ghost use Rattle.std.specs.Prelude.{◌≡◌, length};
-ghost use Rattle.pool.specs.Names.{semantic};
+ghost use Rattle.std.specs.Prelude.{◌≡◌, ℕ, ◌≤◌, get_or};
+ghost use Rattle.context.specs.Words.{limit};
 ghost use Rattle.pool.specs.NameWords.{over};
-ghost use Rattle.codegen.specs.Walks.{noted_run, Walked};
+ghost use Rattle.codegen.specs.Walks.{run_of, Walked};
 ghost use Rattle.codegen.specs.Listing.{Ready};
-ghost use Rattle.codegen.specs.Call.{lists, Roomy, Listable, Listed, Sound, Answered, checked_of, answer_of, out_of, Demanded};
+ghost use Rattle.codegen.specs.Outputs.{words, SameSlices};
+ghost use Rattle.pool.specs.Names.{semantic_of};
+ghost use Rattle.codegen.specs.Call.{Roomy, Listable, Listed, Sound, Answered, checked_in, answer_in, out_of, Demanded};
 
 use crate::copied::name_words;
+use crate::outputs::Outputs;
 use crate::space::space;
 use crate::streams::streams;
 use crate::walks::{Judged, error_words, judge};
@@ -36,25 +39,21 @@ fn listed(
     tree: &Tree,
     entries: &[u32],
     spans: &[Span],
-    markers: &mut [u32],
-    constants: &mut [u32],
-    named: &mut [u32],
-    errors: &mut [u32],
-    lines: &mut [u32],
+    outputs: &mut Outputs,
     judged: Judged,
 ) -> Answer
     requires ready { Ready tree.now.notes.now tree.now.records.now }
-    requires walked { Walked (noted_run tree.now.notes.now tree.now.records.now) judged }
-    requires listable { Listable (noted_run tree.now.notes.now tree.now.records.now) entries.now spans.now (lists markers.old constants.old named.old errors.old lines.old) }
-    ensures { Listed (noted_run tree.now.notes.now tree.now.records.now) tree.now.records.now entries.now spans.now result
-        (lists markers.old constants.old named.old errors.old lines.old)
-        (lists markers.new constants.new named.new errors.new lines.new) }
+    requires walked { Walked (run_of tree.now) judged }
+    requires listable { Listable (run_of tree.now) entries.now spans.now (words outputs.old) }
+    ensures listed { Listed (run_of tree.now) tree.now.records.now entries.now spans.now result
+        (words outputs.old) (words outputs.new) }
+    ensures same { SameSlices outputs.old outputs.new }
 {
     let met = judged.functions;
     let count = judged.errors as usize;
-    streams(tree, spans, markers, constants, lines, met);
-    name_words(entries, spans, named, met);
-    error_words(tree, errors, count);
+    streams(tree, spans, outputs, met);
+    name_words(entries, spans, outputs.names, met);
+    error_words(tree, outputs.errors, count);
     Answer::Listing {
         lines: met,
         errors: count,
@@ -62,132 +61,67 @@ fn listed(
     }
 }
 
+// What the type of some words says of each, since that of a struct with them says nothing.
+fn held(words: &[u32])
+    ensures { (j : ℕ) → get_or words.now j 0 ≤ limit }
+{}
+
 // Tables that the rows accept: the names and notes, then the run, which is judged first: nothing is written unless it ends in a listing.
-fn accepted(
-    recs: &[u32],
-    symbols: &[u32],
-    references: &[u32],
-    functions: &[u32],
-    members: &[u32],
-    markers: &mut [u32],
-    constants: &mut [u32],
-    named: &mut [u32],
-    errors: &mut [u32],
-    lines: &mut [u32],
-) -> Answer
-    requires sound { Sound symbols.now references.now functions.now members.now recs.now }
-    requires roomy { Roomy (semantic symbols.now references.now functions.now members.now) recs.now
-        (lists markers.old constants.old named.old errors.old lines.old) }
-    ensures { Answered (semantic symbols.now references.now functions.now members.now) recs.now result
-        (lists markers.old constants.old named.old errors.old lines.old)
-        (lists markers.new constants.new named.new errors.new lines.new) }
+fn accepted(tables: &Tables, outputs: &mut Outputs) -> Answer
+    requires sound { Sound tables.now.symbols.now tables.now.references.now tables.now.functions.now tables.now.members.now tables.now.records.now }
+    requires roomy { Roomy (semantic_of tables.now) tables.now.records.now (words outputs.old) }
+    ensures answered { Answered (semantic_of tables.now) tables.now.records.now result (words outputs.old) (words outputs.new) }
+    ensures same { SameSlices outputs.old outputs.new }
 {
+    held(tables.records);
     let mut entries = [0u32; 3072];
     let mut spans = [Span::default(); 256];
     let mut notes = [0u32; notes::SIZE];
-    resolve(
-        recs,
-        symbols,
-        references,
-        functions,
-        members,
-        &mut entries,
-        &mut spans,
-        &mut notes,
-    );
+    resolve(tables, &mut entries, &mut spans, &mut notes);
     let tree = Tree {
-        records: recs,
+        records: tables.records,
         notes: &notes,
     };
-    let judged = judge(&tree);
+    let judged = judge(&tree, &mut []);
     if let Flow::Refused(rule, r) = judged.flow {
         return Answer::Refused(Refusal::Run(rule, r));
     }
-    listed(
-        &tree, &entries, &spans, markers, constants, named, errors, lines, judged,
-    )
+    listed(&tree, &entries, &spans, outputs, judged)
 }
 
-// Rows 1 to 9; the outputs are given by their lengths in words.
-fn check(
-    tables: &Tables,
-    markers: usize,
-    constants: usize,
-    named: usize,
-    errors: usize,
-    lines: usize,
-) -> Result<(), Refusal>
-    ensures { result ≡ checked_of tables.now.strings.now tables.now.bytes.now tables.now.symbols.now tables.now.references.now
-        tables.now.functions.now tables.now.members.now tables.now.records.now markers constants named errors lines }
+// Rows 1 to 9.
+#[tactic(auto, using(crate::proofs::AnswerLaws::table_checked, crate::proofs::AnswerLaws::space_checked))]
+fn check(tables: &Tables, outputs: &Outputs) -> Result<(), Refusal>
+    ensures { result ≡ checked_in tables.now outputs.now }
 {
     if let Some(i) = lent(tables) {
         return Err(Refusal::Table(i));
     }
-    let n = size(tables.records);
-    let f = tables.functions.len() / 2;
-    let m = tables.members.len();
-    if let Some(i) = space(n, m, f, markers, constants, named, errors, lines) {
+    if let Some(i) = space(tables, outputs) {
         return Err(Refusal::Space(i));
     }
     rows(tables)
 }
 
 // Document 01's call. A refusal changes no lent word; words past the written ones stay as they were.
-pub fn gen_code(
-    strings: &[u32],
-    bytes: &[u8],
-    symbols: &[u32],
-    references: &[u32],
-    functions: &[u32],
-    members: &[u32],
-    records: &[u32],
-    markers: &mut [u32],
-    constants: &mut [u32],
-    names: &mut [u32],
-    errors: &mut [u32],
-    lines: &mut [u32],
-) -> Answer
-    ensures answer { result ≡ answer_of strings.now bytes.now symbols.now references.now
-        functions.now members.now records.now (length markers.old) (length constants.old)
-        (length names.old) (length errors.old) (length lines.old) }
-    ensures markers { markers.new
-        ≡ over (out_of result (semantic symbols.now references.now functions.now members.now) records.now).markers
-        markers.old }
-    ensures constants { constants.new
-        ≡ over (out_of result (semantic symbols.now references.now functions.now members.now) records.now).constants
-        constants.old }
-    ensures names { names.new
-        ≡ over (out_of result (semantic symbols.now references.now functions.now members.now) records.now).names_out
-        names.old }
-    ensures errors { errors.new
-        ≡ over (out_of result (semantic symbols.now references.now functions.now members.now) records.now).errors
-        errors.old }
-    ensures lines { lines.new
-        ≡ over (out_of result (semantic symbols.now references.now functions.now members.now) records.now).lines
-        lines.old }
-    ensures demand3 { Demanded result (semantic symbols.now references.now functions.now members.now)
-        records.now markers.new constants.new lines.new }
+pub fn gen_code(tables: &Tables, outputs: &mut Outputs) -> Answer
+    ensures answer { result ≡ answer_in tables.now outputs.old }
+    ensures markers { outputs.new.markers.now
+        ≡ over (out_of result (semantic_of tables.now) tables.now.records.now).markers outputs.old.markers.now }
+    ensures constants { outputs.new.constants.now
+        ≡ over (out_of result (semantic_of tables.now) tables.now.records.now).constants outputs.old.constants.now }
+    ensures names { outputs.new.names.now
+        ≡ over (out_of result (semantic_of tables.now) tables.now.records.now).names_out outputs.old.names.now }
+    ensures errors { outputs.new.errors.now
+        ≡ over (out_of result (semantic_of tables.now) tables.now.records.now).errors outputs.old.errors.now }
+    ensures lines { outputs.new.lines.now
+        ≡ over (out_of result (semantic_of tables.now) tables.now.records.now).lines outputs.old.lines.now }
+    ensures demand3 { Demanded result (semantic_of tables.now) tables.now.records.now
+        outputs.new.markers.now outputs.new.constants.now outputs.new.lines.now }
+    ensures same { SameSlices outputs.old outputs.new }
 {
-    let tables = Tables {
-        strings,
-        bytes,
-        symbols,
-        references,
-        functions,
-        members,
-        records,
-    };
-    if let Err(why) = check(
-        &tables,
-        markers.len(),
-        constants.len(),
-        names.len(),
-        errors.len(),
-        lines.len(),
-    ) {
+    if let Err(why) = check(tables, outputs) {
         return Answer::Refused(why);
     }
-    accepted(
-        records, symbols, references, functions, members, markers, constants, names, errors, lines,
-    )
+    accepted(tables, outputs)
 }

@@ -5,6 +5,7 @@ pub mod call;
 mod copied;
 mod depth;
 pub mod ffi;
+pub mod outputs;
 mod places;
 mod space;
 mod streams;

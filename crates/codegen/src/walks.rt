@@ -3,7 +3,7 @@ ghost use Rattle.std.specs.Prelude.{◌≡◌, ◌<◌, length};
 ghost use Rattle.rules.specs.Run.{side};
 ghost use Rattle.context.specs.Words.{limit};
 ghost use Rattle.context.specs.Rep.{lent, note, Scoped};
-ghost use Rattle.codegen.specs.Walks.{noted_run, single, Walkable, Walked, Streamed};
+ghost use Rattle.codegen.specs.Walks.{run_of, single, Walkable, Walked, Streamed};
 
 use context::tree::Tree;
 use context::{Context, KEPT};
@@ -31,12 +31,12 @@ pub(crate) struct Counted {
     pub consts: u32,
 }
 
-// The whole run: its errors' words go to errors, where they have room.
-fn whole(tree: &Tree, errors: &mut [u32]) -> Judged
+// The run judged: nothing but its errors' words is written, to errors, where they have room.
+pub(crate) fn judge(tree: &Tree, errors: &mut [u32]) -> Judged
     requires { Walkable tree.now.notes.now tree.now.records.now }
-    ensures run { Walked (noted_run tree.now.notes.now tree.now.records.now) result }
-    ensures words { length (side (noted_run tree.now.notes.now tree.now.records.now)).errors < limit
-        → errors.new ≡ note errors.old (side (noted_run tree.now.notes.now tree.now.records.now)).errors }
+    ensures run { Walked (run_of tree.now) result }
+    ensures words { length (side (run_of tree.now)).errors < limit
+        → errors.new ≡ note errors.old (side (run_of tree.now)).errors }
 {
     let mut none = [0u32; 0];
     let mut cx = Context {
@@ -62,24 +62,16 @@ fn whole(tree: &Tree, errors: &mut [u32]) -> Judged
     }
 }
 
-// The run judged: nothing is written.
-pub(crate) fn judge(tree: &Tree) -> Judged
-    requires { Walkable tree.now.notes.now tree.now.records.now }
-    ensures { Walked (noted_run tree.now.notes.now tree.now.records.now) result }
-{
-    let mut none = [0u32; 0];
-    whole(tree, &mut none)
-}
-
 // The errors' words, where there are errors: a walk more.
+#[tactic(auto, using(crate::proofs::WalkLaws::none_noted))]
 pub(crate) fn error_words(tree: &Tree, errors: &mut [u32], count: usize)
     requires walkable { Walkable tree.now.notes.now tree.now.records.now }
-    requires counted { count ≡ length (side (noted_run tree.now.notes.now tree.now.records.now)).errors }
+    requires counted { count ≡ length (side (run_of tree.now)).errors }
     requires few { count < limit }
-    ensures { errors.new ≡ note errors.old (side (noted_run tree.now.notes.now tree.now.records.now)).errors }
+    ensures { errors.new ≡ note errors.old (side (run_of tree.now)).errors }
 {
     if 0 < count {
-        whole(tree, errors);
+        judge(tree, errors);
     }
 }
 

@@ -6,6 +6,8 @@ ghost use Rattle.pool.specs.Names.{semantic};
 ghost use Rattle.codegen.specs.Call.{lists, answer_of, Promised};
 
 use codegen::ffi;
+use codegen::outputs::Outputs;
+use tables::lent::Tables;
 
 // The number is 0 for a listing, whose values are its lines, errors and forecast; else it is the refusal's, whose values are its place and two zeros.
 #[unsafe(no_mangle)]
@@ -33,8 +35,21 @@ pub extern "C" fn lucia_gen_code(
         (lists markers.old constants.old names.old errors.old lines.old)
         (lists markers.new constants.new names.new errors.new lines.new) }
 {
-    ffi::lucia_gen_code(
-        strings, bytes, symbols, references, functions, members, records, markers, constants,
-        names, errors, lines, values,
-    )
+    let tables = Tables {
+        strings,
+        bytes,
+        symbols,
+        references,
+        functions,
+        members,
+        records,
+    };
+    let mut outputs = Outputs {
+        markers,
+        constants,
+        names,
+        errors,
+        lines,
+    };
+    ffi::lucia_gen_code(&tables, &mut outputs, values)
 }

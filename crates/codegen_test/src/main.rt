@@ -3,12 +3,15 @@
 #![tactic(auto)]
 
 use codegen::call::{Answer, gen_code};
-use replay::case::{Case, Cases, front, narrowed, rest};
-use replay::input::read;
+use codegen::outputs::Outputs;
+use replay::case::{Case, narrowed};
 use replay::print::{refused, unreadable};
+use replay::run::each_case;
 use std::alloc::{AllocError, Global};
 use std::io;
 use tables::refusal::Refusal;
+use tables::semantic::entry;
+use tables::slices::{front, rest};
 
 // A case has so many numbers before its tables.
 const NUMBERS: usize = 12;
@@ -42,9 +45,9 @@ fn show(rt: &impl Print, out: &[u32], count: usize) -> io::Result<()> {
     keep(rt, rest(out, count))
 }
 
-// The five outputs.
+// The words of the five outputs.
 #[derive(Drop)]
-struct Outputs {
+struct Space {
     markers: Vec<u32>,
     constants: Vec<u32>,
     names: Vec<u32>,
@@ -57,10 +60,10 @@ fn room(alloc: Global, case: Case, i: usize, most: usize) -> Result<Vec<u32>, Al
     vec![in alloc; FILL; case.number(i).min(most)]
 }
 
-impl Outputs {
+impl Space {
     // For 528 records.
     fn new(alloc: Global, case: Case) -> Result<Self, AllocError> {
-        Ok(Outputs {
+        Ok(Space {
             markers: room(alloc, case, 7, 9216)?,
             constants: room(alloc, case, 8, 2048)?,
             names: room(alloc, case, 9, 512)?,
@@ -74,11 +77,11 @@ impl Outputs {
 fn column(lines: &[u32], k: usize, met: usize) -> usize {
     lines.chunks_exact(7).take(met).fold(
         0usize,
-        |total, line| total.saturating_add(line.get(k).copied().unwrap_or(0) as usize),
+        |total, line| total.saturating_add(entry(line, k) as usize),
     )
 }
 
-fn listed(rt: &impl Print, out: &Outputs, met: usize, count: usize) -> io::Result<()> {
+fn listed(rt: &impl Print, out: &Space, met: usize, count: usize) -> io::Result<()> {
     let lines = out.lines.as_slice();
     let names = column(lines, 3, met)
         .saturating_add(column(lines, 4, met))
@@ -91,7 +94,7 @@ fn listed(rt: &impl Print, out: &Outputs, met: usize, count: usize) -> io::Resul
 }
 
 // A refusal changes no lent word.
-fn kept(rt: &impl Print, out: &Outputs, why: Refusal) -> io::Result<()> {
+fn kept(rt: &impl Print, out: &Space, why: Refusal) -> io::Result<()> {
     print!(rt; "refused ")?;
     refused(rt, why)?;
     keep(rt, &out.markers)?;
@@ -101,7 +104,7 @@ fn kept(rt: &impl Print, out: &Outputs, why: Refusal) -> io::Result<()> {
     keep(rt, &out.lines)
 }
 
-fn answer(rt: &impl Print, out: &Outputs, answer: Answer) -> io::Result<()> {
+fn answer(rt: &impl Print, out: &Space, answer: Answer) -> io::Result<()> {
     match answer {
         Answer::Listing {
             lines: met,
@@ -115,41 +118,27 @@ fn answer(rt: &impl Print, out: &Outputs, answer: Answer) -> io::Result<()> {
     }
 }
 
-fn call(case: Case, bytes: &[u8], out: &mut Outputs) -> Answer {
-    gen_code(
-        case.table(0),
-        bytes,
-        case.table(2),
-        case.table(3),
-        case.table(4),
-        case.table(5),
-        case.table(6),
-        &mut out.markers,
-        &mut out.constants,
-        &mut out.names,
-        &mut out.errors,
-        &mut out.lines,
-    )
+fn call(case: Case, bytes: &[u8], out: &mut Space) -> Answer {
+    let tables = case.tables(bytes);
+    let mut outputs = Outputs {
+        markers: &mut out.markers,
+        constants: &mut out.constants,
+        names: &mut out.names,
+        errors: &mut out.errors,
+        lines: &mut out.lines,
+    };
+    gen_code(&tables, &mut outputs)
 }
 
 fn one(rt: &(impl Print + AllocGlobal), case: Case) -> io::Result<()> {
     let Some(bytes) = narrowed(rt.alloc(), case.table(1), BYTES)? else {
         return unreadable(rt);
     };
-    let mut out = Outputs::new(rt.alloc(), case)?;
+    let mut out = Space::new(rt.alloc(), case)?;
     let given = call(case, &bytes, &mut out);
     answer(rt, &out, given)
 }
 
 fn main(rt: HostRuntime) -> io::Result<()> {
-    let Some(words) = read(&rt)? else {
-        return unreadable(&rt);
-    };
-    for case in Cases::new(&words, NUMBERS) {
-        match case {
-            Some(case) => one(&rt, case)?,
-            None => unreadable(&rt)?,
-        }
-    }
-    Ok(())
+    each_case(&rt, NUMBERS, "", |case| one(&rt, case))
 }

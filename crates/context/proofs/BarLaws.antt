@@ -5,6 +5,7 @@ use mathlib.Core.List.{List}
 use Prim.Native.Nat.{ℕ}
 use lib.Dec.{eqb}
 use Rattle.tables.specs.Record.{Words, word, words, is_do}
+use Rattle.rules.specs.declared.error.ErrorKind.TheVariants.{ReturnOutsideFunction}
 use Rattle.rules.specs.declared.Flow.TheVariants.{Cut}
 use Rattle.rules.specs.Run.{State, barred}
 use Rattle.context.specs.Sinks.{stopped}
@@ -18,9 +19,9 @@ module _ {c : Walk} {records : List ℕ} {x₀ : Context} {A : State} {x : Conte
   pub in_do : is_do (words records c.function) ≡ b
   in_do = ap (λ (f : ℕ). eqb (word records f 1) 2) (sym h.function) ∙ sym e
 
-  pub bar_yes : {x' : Context} → b ≡ true → x' ≡ stopped (Cut 2 p.start p.end) x → Rep c records x₀ (barred p (is_do (words records c.function)) A) x'
+  pub bar_yes : {x' : Context} → b ≡ true → x' ≡ stopped (Cut ReturnOutsideFunction p.start p.end) x → Rep c records x₀ (barred p (is_do (words records c.function)) A) x'
   unfolding barred
-  bar_yes t k = given (on_true _ _ _ (in_do ∙ t)) (halted (Cut 2 p.start p.end) k h)
+  bar_yes t k = given (on_true _ _ _ (in_do ∙ t)) (halted (Cut ReturnOutsideFunction p.start p.end) k h)
 
   pub bar_no : b ≡ false → Rep c records x₀ (barred p (is_do (words records c.function)) A) x
   unfolding barred

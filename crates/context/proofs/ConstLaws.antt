@@ -8,8 +8,6 @@ use lib.ListN.{length}
 use Rattle.opcode.specs.Words.{pair_of}
 use Rattle.pool.specs.Value.{Value, Const, find, intern}
 use Rattle.pool.specs.Consts.{table, laid, most, written, constant, Told}
-use Rattle.pool.specs.ConstValues.{lit_of}
-use Rattle.pool.specs.declared.value.ConstValue.{ConstValue}
 use Rattle.pool.specs.declared.consts.ConstWords.{ConstWords}
 use Rattle.pool.proofs.ConstsLaws.{intern_length, find_intern}
 use Rattle.pool.proofs.LaidLaws.{told_const, told_intern, table_laid, written_laid}
@@ -23,9 +21,6 @@ use Rattle.context.specs.declared.Context.{Context}
 use Rattle.context.proofs.Basics.{clash, on_true, on_false, shape}
 use Rattle.context.proofs.RepLaws.{given, stands, went}
 use Rattle.context.proofs.MarkLaws.{writes_so, no_marker}
-
-pub lit_as : {v : ConstValue} {d p q d' p' q' : ℕ} → v ≡ lit_of d p q → d ≡ d' → p ≡ p' → q ≡ q' → v ≡ lit_of d' p' q'
-lit_as {q = q} {d' = d'} {p' = p'} e x y z = e ∙ ap₂ (λ (a b : ℕ). lit_of a b q) x y ∙ ap (lit_of d' p') z
 
 -- markers name no more constants than they are, but for Null
 pub table_short : (m : List Mark) → length (consts m) ≤ suc (length m)

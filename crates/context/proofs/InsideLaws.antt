@@ -19,7 +19,7 @@ use Rattle.context.specs.Sinks.{label_id, with_code, with_consts, beginning, goe
 use Rattle.context.specs.Rep.{Flat, Noted, Walk, within, Stack, Rep, Lent, Sim}
 use Rattle.context.specs.declared.Context.{Context}
 use Rattle.context.specs.declared.function.Outer.{Outer}
-use Rattle.context.proofs.Basics.{clash, shape, no_nested, no_kept}
+use Rattle.context.proofs.Basics.{clash, shape, no_nested}
 use Rattle.context.proofs.RepLaws.{given, stands, went, stood, halted}
 use Rattle.context.proofs.MarkLaws.{settled}
 
@@ -59,9 +59,6 @@ module _ (e : Lent) (v : Walk → State → State) {x : Context} where
         let q : A ≡ st (marks A) (labels A) (loops A) (opened A) Go (side A) = shape A (went h g) in
         given (ap (kept (v c)) q ∙ ap (λ (B : State). settle (v c B)) (sym q)) (settled b (a.sim z c x₀ A h));
   }
-
-  pub item_still : goes x ≡ false → Sim e x x (λ c. kept (v c))
-  item_still n = record { sim = λ z c x₀ A h. given (no_kept (v c) A (stood h n)) h }
 
 -- ---- the function at record r, whose words are p and whose stream is v
 

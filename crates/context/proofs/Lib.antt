@@ -6,6 +6,7 @@ pub mod NameLaws
 pub mod ConstLaws
 pub mod BarLaws
 pub mod LoopLaws
+mod LabelLaws
 pub mod LeaveLaws
 pub mod InsideLaws
 pub mod PartLaws

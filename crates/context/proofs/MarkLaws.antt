@@ -14,7 +14,7 @@ use Rattle.pool.specs.Consts.{laid, put3, AllTold}
 use Rattle.rules.specs.declared.Flow.{Flow}
 use Rattle.rules.specs.declared.Flow.TheVariants.{Go, Cut, Refused}
 use Rattle.rules.specs.Marker.{Forward, Code, Op, Label, To, Back, Leave, Load, Do, Mark, mark}
-use Rattle.rules.specs.Run.{State, st, marks, flow, emit, settle}
+use Rattle.rules.specs.Run.{State, st, marks, flow, emit, settle, error_number}
 use Rattle.rules.specs.Out.{consts, code_word, operand_word, forward_number, code_number}
 use Rattle.context.specs.Words.{limit, cap, more}
 use Rattle.context.specs.Sinks.{put2, goes, writes, marked, pushed, keeping, kept}
@@ -180,8 +180,8 @@ module _ {c : Walk} {records : List ℕ} {x₀ : Context} {x : Context} where
     noted = λ n. record {
       errors = λ lt.
           let i : x.error_count ≡ length e.errors = omega (arith, h.errors) in
-          on_true _ _ _ (h.nest ∙ n) ∙ ap (λ (j : ℕ). put3 x.code.now j k a b) i
-          ∙ ap (λ (u : List ℕ). put3 u (length e.errors) k a b) ((h.noted n).errors (omega arith));
+          on_true _ _ _ (h.nest ∙ n) ∙ ap (λ (j : ℕ). put3 x.code.now j (error_number k) a b) i
+          ∙ ap (λ (u : List ℕ). put3 u (length e.errors) (error_number k) a b) ((h.noted n).errors (omega arith));
       consts = (h.noted n).consts;
     };
     labels = h.labels;
@@ -201,3 +201,7 @@ module _ {c : Walk} {records : List ℕ} {x₀ : Context} {x : Context} where
   pub settled : {A : State} {x' : Context} → x' ≡ kept x → Rep c records x₀ A x → Rep c records x₀ (settle A) x'
   unfolding kept
   settled {A} e h = stands (e ∙ ap (λ (f : Flow). keeping f x) h.flow) (by_flow A h)
+
+-- what push_code says of words that the code converts to
+pub sent : (x : Context) {x' : Context} {w v : MarkerWords} → w ≡ v → x' ≡ pushed w x → x' ≡ pushed v x
+sent x e q = q ∙ ap (λ (u : MarkerWords). pushed u x) e

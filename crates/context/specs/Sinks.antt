@@ -15,6 +15,7 @@ use Rattle.rules.specs.Run.{local_code, global_code}
 use Rattle.rules.specs.Out.{code_number}
 use Rattle.rules.specs.Marker.{LoadUpvalue}
 use Rattle.rules.specs.declared.Flow.{Flow}
+use Rattle.rules.specs.Run.{error_number}
 use Rattle.rules.specs.declared.Flow.TheVariants.{Go, Cut, Refused}
 use Rattle.context.specs.Words.{limit, cap, more, KEPT, is_go}
 use Rattle.context.specs.declared.Context.{Context}
@@ -152,7 +153,7 @@ noted x k a b = cond x.nest (put3 x.code.now x.error_count k a b) x.code.now
 
 abbrev pub keeping : Flow → Context → Context
 keeping Go x = x
-keeping (Cut k a b) x = record (with_code (noted x k a b) x) { flow = Go; error_count = more x.error_count }
+keeping (Cut k a b) x = record (with_code (noted x (error_number k) a b) x) { flow = Go; error_count = more x.error_count }
 keeping (Refused y i) x = x
 
 unfoldable pub kept : Context → Context

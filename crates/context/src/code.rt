@@ -1,11 +1,11 @@
 // push_code, the one sink for markers.
 ghost use Rattle.std.specs.Prelude.{◌≡◌, ◌<◌};
-ghost use Rattle.opcode.specs.Words.{op_words, words_of, pair_of};
+ghost use Rattle.opcode.specs.Words.{pair_of};
 ghost use Rattle.context.specs.Words.{limit};
 
 use crate::Context;
 use opcode::index::LabelId;
-use opcode::opcode::{CodeMarker, OpCode, Words};
+use opcode::opcode::{CodeMarker, Words};
 use pool::entries::put;
 
 impl Context<'_> {
@@ -28,24 +28,13 @@ impl Context<'_> {
     }
 
     #[tactic(auto, unfolding(crate::specs::Sinks::pushed))]
-    fn push_words(&mut self, w: Words)
-        ensures { self.new ≡ pushed w self.old }
+    pub fn push_code<T: Into<Words>>(&mut self, code: T)
+        ensures { (w : _) × T.converts code w × (self.new ≡ pushed w self.old) }
     {
+        let words = code.into();
         if self.writes() {
-            self.mark(w)
+            self.mark(words)
         }
-    }
-
-    pub fn push_code(&mut self, marker: CodeMarker)
-        ensures { self.new ≡ pushed (words_of marker) self.old }
-    {
-        self.push_words(marker.into())
-    }
-
-    pub fn push_op(&mut self, op: OpCode)
-        ensures { self.new ≡ pushed (op_words op) self.old }
-    {
-        self.push_words(op.into())
     }
 
     pub fn push_label(&mut self, label: LabelId)

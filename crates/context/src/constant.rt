@@ -1,5 +1,8 @@
 // add_const and push_load_const, and the two opcodes that import.
-ghost use Rattle.std.specs.Prelude.{◌≡◌};
+ghost use Rattle.std.specs.Prelude.{◌≡◌, ℕ};
+ghost use Rattle.opcode.specs.Words.{op_words, pair_of};
+ghost use Rattle.opcode.specs.declared.index.ConstId.{ConstId};
+ghost use Rattle.opcode.specs.declared.opcode.OpCode.{OpCode};
 ghost use Rattle.tables.specs.Record.{word};
 ghost use Rattle.pool.specs.ConstValues.{words_of, lit_of};
 ghost use Rattle.pool.specs.declared.value.ConstValue.TheVariants.{Null as NullValue, Str as StrValue};
@@ -27,14 +30,23 @@ impl Context<'_> {
         ConstId(capped(added.index))
     }
 
+    // The opcode that names a constant.
     #[tactic(auto, unfolding(crate::specs::Sinks::loads, crate::specs::Sinks::pushed))]
-    pub fn push_load_const(&mut self, recs: &[u32], value: ConstValue)
-        ensures { self.new ≡ loads recs.now 6 (words_of value) self.old }
+    fn push_naming<F: Fn(ConstId) -> OpCode>(&mut self, recs: &[u32], value: ConstValue, op: F)
+        requires callable { F.IsAlwaysCallable op }
+        ensures { (code : ℕ) → ((i : ConstId) (r : OpCode) → F.post op i r → op_words r ≡ pair_of code i.0)
+            → self.new ≡ loads recs.now code (words_of value) self.old }
     {
         if self.writes() {
             let const_id = self.add_const(recs, value);
-            self.push_op(OpCode::LoadConst(const_id))
+            self.push_code(op(const_id))
         }
+    }
+
+    pub fn push_load_const(&mut self, recs: &[u32], value: ConstValue)
+        ensures { self.new ≡ loads recs.now 6 (words_of value) self.old }
+    {
+        self.push_naming(recs, value, OpCode::LoadConst)
     }
 
     // visit_lit
@@ -56,23 +68,15 @@ impl Context<'_> {
         self.push_load_const(recs, ConstValue::Null)
     }
 
-    #[tactic(auto, unfolding(crate::specs::Sinks::loads, crate::specs::Sinks::pushed))]
     pub fn push_import(&mut self, recs: &[u32], path: u32)
         ensures { self.new ≡ loads recs.now 32 (words_of (StrValue path)) self.old }
     {
-        if self.writes() {
-            let const_id = self.add_const(recs, ConstValue::Str(path));
-            self.push_op(OpCode::Import(const_id))
-        }
+        self.push_naming(recs, ConstValue::Str(path), OpCode::Import)
     }
 
-    #[tactic(auto, unfolding(crate::specs::Sinks::loads, crate::specs::Sinks::pushed))]
     pub fn push_import_from(&mut self, recs: &[u32], name: u32)
         ensures { self.new ≡ loads recs.now 33 (words_of (StrValue name)) self.old }
     {
-        if self.writes() {
-            let const_id = self.add_const(recs, ConstValue::Str(name));
-            self.push_op(OpCode::ImportFrom(const_id))
-        }
+        self.push_naming(recs, ConstValue::Str(name), OpCode::ImportFrom)
     }
 }

@@ -4,6 +4,7 @@ ghost use Rattle.tables.specs.Record.{word};
 
 use crate::Context;
 use rules::Flow;
+use rules::error::ErrorKind;
 use tables::ast::{end, start};
 use tables::refusal::RunRule;
 
@@ -20,10 +21,14 @@ impl Context<'_> {
     }
 
     // return Err(..), an error of this kind at record r
-    pub fn cut(&mut self, recs: &[u32], kind: u32, r: usize)
+    pub fn cut(&mut self, recs: &[u32], kind: ErrorKind, r: usize)
         ensures { self.new ≡ stopped (Flow.Cut kind (word recs.now r 4) (word recs.now r 5)) self.old }
     {
-        self.stop(Flow::Cut(kind, start(recs, r), end(recs, r)));
+        self.stop(Flow::Cut {
+            kind,
+            start: start(recs, r),
+            end: end(recs, r),
+        });
     }
 
     pub fn refuse(&mut self, rule: RunRule, r: usize)

@@ -5,8 +5,8 @@ ghost use Rattle.tables.specs.Record.{word};
 
 use crate::Context;
 use opcode::index::FunctionId;
-use tables::ast::{detail, p};
-use tables::detail;
+use tables::ast::{function_kind, p};
+use tables::kind::FunctionKind;
 
 // function.function_id
 pub fn function_id(recs: &[u32], r: usize) -> FunctionId
@@ -63,6 +63,6 @@ impl Context<'_> {
     pub fn is_in_do(&self, recs: &[u32]) -> bool
         ensures { result ≡ eqb (word recs.now self.now.function 1) 2 }
     {
-        detail(recs, self.function) == detail::DO
+        function_kind(recs, self.function) == FunctionKind::Do
     }
 }

@@ -3,6 +3,7 @@ ghost use Rattle.std.specs.Prelude.{◌≡◌, ◌+◌};
 ghost use Rattle.context.specs.Words.{cap, more};
 
 use crate::Context;
+use crate::word::capped;
 use opcode::index::LabelId;
 
 impl Context<'_> {
@@ -30,11 +31,11 @@ impl Context<'_> {
     pub fn get_labels(&mut self, n: usize) -> LabelId
         ensures { Takes self.old self.new n result.0 }
     {
-        let label = self.coming_label();
-        for _ in 0..n {
-            self.get_label();
+        let label = self.label_count;
+        if self.goes_on() {
+            self.label_count = label.saturating_add(capped(n));
         }
-        label
+        LabelId(label)
     }
 }
 

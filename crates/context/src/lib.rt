@@ -49,6 +49,6 @@ impl Context<'_> {
     pub fn goes_on(&self) -> bool
         ensures { result ≡ goes self.now }
     {
-        matches!(self.flow, Flow::Go)
+        self.flow == Flow::Go
     }
 }

@@ -15,9 +15,9 @@ impl Context<'_> {
         ensures { self.new ≡ used Get ident (load_noted notes.now ident) self.old }
     {
         match load_of(notes, ident) {
-            Ok(Access::Local(id)) => self.push_op(OpCode::LoadLocal(id)),
-            Ok(Access::Upvalue(id)) => self.push_op(OpCode::LoadUpvalue(id)),
-            Ok(Access::Global(id)) => self.push_op(OpCode::LoadGlobal(id)),
+            Ok(Access::Local(id)) => self.push_code(OpCode::LoadLocal(id)),
+            Ok(Access::Upvalue(id)) => self.push_code(OpCode::LoadUpvalue(id)),
+            Ok(Access::Global(id)) => self.push_code(OpCode::LoadGlobal(id)),
             Err(rule) => self.refuse(rule, ident),
         }
     }
@@ -27,8 +27,8 @@ impl Context<'_> {
         ensures { self.new ≡ used Set ident (store_noted notes.now ident) self.old }
     {
         match store_of(notes, ident) {
-            Ok(Access::Local(id)) => self.push_op(OpCode::StoreLocal(id)),
-            Ok(Access::Global(id)) => self.push_op(OpCode::StoreGlobal(id)),
+            Ok(Access::Local(id)) => self.push_code(OpCode::StoreLocal(id)),
+            Ok(Access::Global(id)) => self.push_code(OpCode::StoreGlobal(id)),
             Ok(Access::Upvalue(_)) => {}
             Err(rule) => self.refuse(rule, ident),
         }

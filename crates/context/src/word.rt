@@ -5,5 +5,5 @@ ghost use Rattle.context.specs.Words.{cap};
 pub fn capped(n: usize) -> u32
     ensures { result ≡ cap n }
 {
-    n.min(u32::MAX as usize) as u32
+    u32::try_from(n).unwrap_or(u32::MAX)
 }

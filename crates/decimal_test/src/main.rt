@@ -7,7 +7,7 @@ use std::io::Write;
 
 fn show(rt: &impl Print, n: u64) -> io::Result<()> {
     let high = (n >> 32) as u32;
-    let low = (n & 4294967295) as u32;
+    let low = (n & 0xffff_ffff) as u32;
     let mut out = [0u8; 64];
     let mut w = Writer {
         out: &mut out,

@@ -1,22 +1,13 @@
--- Laws of the count of lines, byte by byte. Assumes nothing.
-use mathlib.Core.Path.{◌≡◌, sym, ap, ◌∙◌}
+-- How many lines there can be. Assumes nothing.
 use mathlib.Core.Bool.{Bool, true, false, cond}
 use mathlib.Core.List.{List, [], ◌∷◌}
-use Prim.Native.Nat.{ℕ, ◌+◌, ◌≤◌, ◌<◌}
+use Prim.Native.Nat.{ℕ, ◌+◌, ◌≤◌}
 use native.Mathlib.Omega.{arith}
-use native.Mathlib.Numerals.{add-one}
-use lib.ListN.{length, take, drop, get_or, drop_of_length-le, length-take}
-use lib.Seq.{drop-cons}
+use lib.ListN.{length, take, length-take}
 use lib.Dec.{eqb}
 use mir.Val.{Fits}
 use mir.Syntax.{w64}
 use Rattle.lister.specs.Genlist.{feed, feeds}
-
-pub feeds_step : (l : List ℕ) (i : ℕ) → i < length l → feeds (drop i l) ≡ feed (get_or l i 0) + feeds (drop (i + 1) l)
-feeds_step l i h = ap feeds (drop-cons l i 0 h) ∙ ap (λ (n : ℕ). feed (get_or l i 0) + feeds (drop n l)) (sym (add-one i))
-
-pub feeds_end : (l : List ℕ) (i : ℕ) → length l ≤ i → feeds (drop i l) ≡ 0
-feeds_end l i h = ap feeds (drop_of_length-le l h)
 
 few : (t : Bool) → cond t 1 0 ≤ 1
 few true = omega arith

@@ -12,8 +12,8 @@ use Rattle.std.proofs.Common.{Result, Ok, Err}
 use Rattle.listing.specs.declared.read.UnreadLine.{UnreadLine}
 use Rattle.listing.specs.declared.read.Sizes.{Sizes}
 use Rattle.listing.specs.Text.{Tables, Outcome, tables, input, read_of, rooms_of, reading_of, Holds, Begin}
-use Rattle.listing.specs.Print.{input_text, refusal_text}
-use Rattle.lister.specs.Genlist.{rooms, blank, filled, answer_text, given, sized, answer_to, semantic_of, call_text, printed, feeds, genlist_text}
+use Rattle.listing.specs.Print.{input_text}
+use Rattle.lister.specs.Genlist.{rooms, blank, filled, answer_text, sized, answer_to, semantic_of, call_text, printed, feeds, genlist_text}
 
 -- the answer by the lengths of what was lent
 lent : (t : Tables) → answer_of t.strings t.bytes t.symbols t.references t.functions t.members t.records
@@ -39,25 +39,28 @@ answer_text_lem t a markers constants names errors lines e m k n x l =
     let same : Answer → List ℕ = λ z. answer_text t.symbols t.records (filled (out_of z (semantic_of t) t.records) blank) z in
     rw m (rw k (rw n (rw x (rw l (ap same e')))))
 
--- the text of a refusal by its number and place
-pub refused_text : (n p m q : ℕ) → n ≡ m → p ≡ q → refusal_text n p ≡ refusal_text m q
-refused_text n p m q e f = rw e (rw f refl)
-
--- tables whose lists are the fronts of others
-pub fronts : (n : Sizes) (a b c d e f g a' b' c' d' e' f' g' : List ℕ) → a' ≡ take n.strings a → b' ≡ take n.bytes b → c' ≡ take n.symbols c
-    → d' ≡ take n.references d → e' ≡ take n.functions e → f' ≡ take n.members f → g' ≡ take n.records g
-    → call_text (given a' b' c' d' e' f' g') ≡ call_text (sized n a b c d e f g)
-fronts n a b c d e f g a' b' c' d' e' f' g' p q r s t u v = rw p (rw q (rw r (rw s (rw t (rw u (rw v refl))))))
+-- what genlist lends to the reading
+abbrev zeros : Tables
+zeros = record {
+  strings = replicate 280 0;
+  bytes = replicate 4096 0;
+  symbols = replicate 280 0;
+  references = replicate 140 0;
+  functions = replicate 280 0;
+  members = replicate 140 0;
+  records = replicate 1120 0;
+}
 
 -- the reading of a text into what genlist lends
 read_rooms : (text front : List ℕ) → front ≡ take 262144 text
-    → read_of (rooms_of (given (replicate 280 0) (replicate 4096 0) (replicate 280 0) (replicate 140 0) (replicate 280 0) (replicate 140 0) (replicate 1120 0))) front
+    → read_of (rooms_of zeros) front
     ≡ read_of rooms (take 262144 text)
 read_rooms text front e =
     rw e (rw (length-replicate {A = ℕ} 280 0) (rw (length-replicate {A = ℕ} 4096 0) (rw (length-replicate {A = ℕ} 140 0) (rw (length-replicate {A = ℕ} 1120 0) refl))))
 
 -- the line that can't be read
-input_text_lem : (text : List ℕ) (o : Outcome) (r : Result Sizes UnreadLine) (unread : UnreadLine) → r ≡ reading_of o → r ≡ Err unread → input_text unread.line ≡ printed text o
+input_text_lem : (text : List ℕ) (o : Outcome) (r : Result Sizes UnreadLine) (unread : UnreadLine) → r ≡ reading_of o → r ≡ Err unread
+    → input_text unread.line ≡ printed text o
 input_text_lem text (input l) r unread e f =
     let z : UnreadLine = record { line = l } in
     let q : z ≡ unread = cc in ap (λ (u : UnreadLine). input_text u.line) (sym q)
@@ -71,8 +74,8 @@ long_text text (tables t) r n e f h =
     sym (ap (λ (b : Bool). cond b (call_text t) (input_text (feeds (take 262143 text) + 1))) (le-ltb (length text) 262144 h))
 
 -- what was lent holds the tables
-held : (t : Tables) (n : Sizes) (a b c d e f g : List ℕ) → Ok n ≡ reading_of (tables t) → Begin t (given a b c d e f g) → sized n a b c d e f g ≡ t
-held t n a b c d e f g q h =
+held : (t : Tables) (n : Sizes) (w : Tables) → Ok n ≡ reading_of (tables t) → Begin t w → sized n w ≡ t
+held t n w q h =
     let p : n ≡ record {
       strings = length t.strings;
       bytes = length t.bytes;
@@ -85,19 +88,20 @@ held t n a b c d e f g q h =
     rw p (rw h.strings (rw h.bytes (rw h.symbols (rw h.references (rw h.functions (rw h.members (rw h.records refl)))))))
 
 -- tables of a text
-tables_text : (text : List ℕ) (o : Outcome) (r : Result Sizes UnreadLine) (n : Sizes) (a b c d e f g : List ℕ) → r ≡ reading_of o → r ≡ Ok n
-    → Holds o (given a b c d e f g) → length text < 262144 → call_text (sized n a b c d e f g) ≡ printed text o
-tables_text text (input l) r n a b c d e f g p q h k = cc
-tables_text text (tables t) r n a b c d e f g p q h k =
-    ap call_text (held t n a b c d e f g (sym q ∙ p) h)
+tables_text : (text : List ℕ) (o : Outcome) (r : Result Sizes UnreadLine) (n : Sizes) (w : Tables) → r ≡ reading_of o → r ≡ Ok n
+    → Holds o w → length text < 262144 → call_text (sized n w) ≡ printed text o
+tables_text text (input l) r n w p q h k = cc
+tables_text text (tables t) r n w p q h k =
+    ap call_text (held t n w (sym q ∙ p) h)
     ∙ sym (ap (λ (x : Bool). cond x (call_text t) (input_text (feeds (take 262143 text) + 1))) (lt-ltb (length text) 262144 k))
 
 -- what the lent tables are read into
 abbrev outcome : List ℕ → Outcome
 outcome front =
-    read_of (rooms_of (given (replicate 280 0) (replicate 4096 0) (replicate 280 0) (replicate 140 0) (replicate 280 0) (replicate 140 0) (replicate 1120 0))) front
+    read_of (rooms_of zeros) front
 
-pub list_input : (text front : List ℕ) (r : Result Sizes UnreadLine) (unread : UnreadLine) → front ≡ take 262144 text → r ≡ reading_of (outcome front) → r ≡ Err unread
+pub list_input : (text front : List ℕ) (r : Result Sizes UnreadLine) (unread : UnreadLine) → front ≡ take 262144 text → r ≡ reading_of (outcome front)
+    → r ≡ Err unread
     → input_text unread.line ≡ genlist_text text
 unfolding genlist_text
 list_input text front r unread h e f = input_text_lem text (read_of rooms (take 262144 text)) r unread (e ∙ ap reading_of (read_rooms text front h)) f
@@ -107,9 +111,9 @@ pub list_long : (text front : List ℕ) (r : Result Sizes UnreadLine) (n : Sizes
 unfolding genlist_text
 list_long text front r n line h e f k l = ap input_text l ∙ long_text text (read_of rooms (take 262144 text)) r n (e ∙ ap reading_of (read_rooms text front h)) f k
 
-pub list_tables : (text front : List ℕ) (r : Result Sizes UnreadLine) (n : Sizes) (a b c d e f g : List ℕ) → front ≡ take 262144 text → r ≡ reading_of (outcome front)
-    → Holds (outcome front) (given a b c d e f g) → r ≡ Ok n → length text < 262144 → call_text (sized n a b c d e f g) ≡ genlist_text text
+pub list_tables : (text front : List ℕ) (r : Result Sizes UnreadLine) (n : Sizes) (w : Tables) → front ≡ take 262144 text → r ≡ reading_of (outcome front)
+    → Holds (outcome front) w → r ≡ Ok n → length text < 262144 → call_text (sized n w) ≡ genlist_text text
 unfolding genlist_text
-list_tables text front r n a b c d e f g h p q s k =
+list_tables text front r n w h p q s k =
     let o = read_rooms text front h in
-    tables_text text (read_of rooms (take 262144 text)) r n a b c d e f g (p ∙ ap reading_of o) s (subst (λ (x : Outcome). Holds x (given a b c d e f g)) o q) k
+    tables_text text (read_of rooms (take 262144 text)) r n w (p ∙ ap reading_of o) s (subst (λ (x : Outcome). Holds x w) o q) k

@@ -1,6 +1,7 @@
 -- The text that genlist prints of the text that it is given (document 01, 'The listing program'). Definitions only.
 use Rattle.std.specs.Prelude.{cond, List, [], ◌∷◌, ℕ, ◌+◌, length, take, replicate, ltb, eqb}
 use Rattle.tables.specs.Refusal.{number_of, place_of}
+use Rattle.tables.specs.declared.lent.Tables.{Tables as Lent}
 use Rattle.pool.specs.Names.{Semantic, semantic}
 use Rattle.pool.specs.NameWords.{over}
 use Rattle.rules.specs.Out.{Out}
@@ -35,23 +36,29 @@ answer_text symbols records o (Listing met count forecast) =
     listing_text symbols records o.markers o.constants o.names_out o.errors o.lines met count
 answer_text symbols records o (Refused why) = refusal_text (number_of why) (place_of why)
 
--- seven lists as tables
-abbrev pub given : (strings bytes symbols references functions members records : List ℕ) → Tables
-given strings bytes symbols references functions members records = record {
-  strings = strings;
-  bytes = bytes;
-  symbols = symbols;
-  references = references;
-  functions = functions;
-  members = members;
-  records = records;
+-- the tables that are lent to the call
+abbrev pub given : Lent → Tables
+given t = record {
+  strings = t.strings.now;
+  bytes = t.bytes.now;
+  symbols = t.symbols.now;
+  references = t.references.now;
+  functions = t.functions.now;
+  members = t.members.now;
+  records = t.records.now;
 }
 
--- so much of each of seven lists
-abbrev pub sized : Sizes → (strings bytes symbols references functions members records : List ℕ) → Tables
-sized n strings bytes symbols references functions members records =
-    given (take n.strings strings) (take n.bytes bytes) (take n.symbols symbols) (take n.references references)
-    (take n.functions functions) (take n.members members) (take n.records records)
+-- so much of each table
+abbrev pub sized : Sizes → Tables → Tables
+sized n t = record {
+  strings = take n.strings t.strings;
+  bytes = take n.bytes t.bytes;
+  symbols = take n.symbols t.symbols;
+  references = take n.references t.references;
+  functions = take n.functions t.functions;
+  members = take n.members t.members;
+  records = take n.records t.records;
+}
 
 -- the call's answer to the tables
 abbrev pub answer_to : Tables → Answer

@@ -2,16 +2,17 @@
 ghost use Rattle.std.specs.Prelude.{◌≡◌, ◌≤◌, length, take};
 ghost use Rattle.codegen.specs.Call.{lists};
 ghost use Rattle.listing.specs.Print.{after, Wrote};
+ghost use Rattle.listing.specs.Text.{words};
 ghost use Rattle.lister.specs.Genlist.{most, answer_text, given, sized, call_text, genlist_text};
 
-use crate::fronts::{front, overlong};
+use crate::fronts::{TOO_LONG, overlong};
 use codegen::call::{Answer, gen_code};
+use codegen::outputs::Outputs;
 use listing::print::{Source, input, listing, refusal};
 use listing::read::{Lent, Sizes, read};
 use listing::text::Writer;
-
-// A text of so many bytes fills genlist's buffer.
-const TOO_LONG: usize = 262144;
+use tables::lent::Tables;
+use tables::slices::front;
 
 fn answered(w: &mut Writer, s: &Source, answer: Answer)
     ensures { w.new ≡ after (answer_text s.now.symbols.now s.now.records.now (lists s.now.markers.now
@@ -28,41 +29,25 @@ fn answered(w: &mut Writer, s: &Source, answer: Answer)
 }
 
 // The outputs are as long as the most records, members and functions of a text need.
-fn generated(
-    w: &mut Writer,
-    strings: &[u32],
-    bytes: &[u8],
-    symbols: &[u32],
-    references: &[u32],
-    functions: &[u32],
-    members: &[u32],
-    records: &[u32],
-)
-    ensures { w.new ≡ after (call_text (given strings.now bytes.now symbols.now references.now
-        functions.now members.now records.now)) w.old }
+fn generated(w: &mut Writer, tables: &Tables)
+    ensures { w.new ≡ after (call_text (given tables.now)) w.old }
 {
     let mut markers = [0u32; 8960];
     let mut constants = [0u32; 1260];
     let mut names = [0u32; 420];
     let mut errors = [0u32; 420];
     let mut lines = [0u32; 980];
-    let answer = gen_code(
-        strings,
-        bytes,
-        symbols,
-        references,
-        functions,
-        members,
-        records,
-        &mut markers,
-        &mut constants,
-        &mut names,
-        &mut errors,
-        &mut lines,
-    );
+    let mut outputs = Outputs {
+        markers: &mut markers,
+        constants: &mut constants,
+        names: &mut names,
+        errors: &mut errors,
+        lines: &mut lines,
+    };
+    let answer = gen_code(tables, &mut outputs);
     let source = Source {
-        symbols,
-        records,
+        symbols: tables.symbols,
+        records: tables.records,
         markers: &markers,
         constants: &constants,
         names: &names,
@@ -74,28 +59,18 @@ fn generated(
 
 // The tables are the front of what was lent to the reading.
 fn printed(w: &mut Writer, lent: &Lent, sizes: Sizes)
-    ensures { w.new ≡ after (call_text (sized sizes lent.now.strings.now lent.now.bytes.now lent.now.symbols.now
-        lent.now.references.now lent.now.functions.now lent.now.members.now lent.now.records.now)) w.old }
+    ensures { w.new ≡ after (call_text (sized sizes (words lent.now))) w.old }
 {
-    let Lent {
-        strings,
-        bytes,
-        symbols,
-        references,
-        functions,
-        members,
-        records,
-    } = lent;
-    generated(
-        w,
-        front(strings, sizes.strings),
-        front(bytes, sizes.bytes),
-        front(symbols, sizes.symbols),
-        front(references, sizes.references),
-        front(functions, sizes.functions),
-        front(members, sizes.members),
-        front(records, sizes.records),
-    );
+    let tables = Tables {
+        strings: front(lent.strings, sizes.strings),
+        bytes: front(lent.bytes, sizes.bytes),
+        symbols: front(lent.symbols, sizes.symbols),
+        references: front(lent.references, sizes.references),
+        functions: front(lent.functions, sizes.functions),
+        members: front(lent.members, sizes.members),
+        records: front(lent.records, sizes.records),
+    };
+    generated(w, &tables);
 }
 
 // What genlist prints of a text.
@@ -118,7 +93,7 @@ fn listed(w: &mut Writer, text: &[u8])
         members: &mut members,
         records: &mut records,
     };
-    let sizes = match read(front(text, 262144), &mut lent) {
+    let sizes = match read(front(text, TOO_LONG), &mut lent) {
         Ok(sizes) => sizes,
         Err(unread) => return input(w, unread.line),
     };

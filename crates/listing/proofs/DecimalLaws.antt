@@ -7,7 +7,8 @@ use native.Mathlib.Nat.{not-suc-le-zero, pow-suc}
 use native.Mathlib.Omega.{arith}
 use native.Mathlib.Numerals.{sub-one}
 use lib.Dec.{T, eqb, eqb→eq}
-use lib.ListN.{length, get_or}
+use lib.ListN.{length, get_or, take}
+use Rattle.std.proofs.lemmas.List.{length-take-le, get_or-take, length_push, get_or_push, get_or_append_left}
 use Rattle.opcode.proofs.Table.{every, at}
 use Rattle.listing.specs.declared.text.Writer.{Writer}
 use Rattle.listing.specs.Print.{after, digits, digit, decimal, Powers, Wide, Leads}
@@ -93,3 +94,39 @@ long_next ts i n p d r u w z q l k h =
 pub long_done : {u : Writer} (ts : List ℕ) (i n : ℕ) (w : Writer) → i ≤ 0 → after ts w ≡ after (padded i n) u → u ≡ after ts w
 unfolding padded
 long_done {u} ts i n w h r = let e : i ≡ 0 = omega arith in left_none ts w (r ∙ ap (λ (j : ℕ). after (padded j n) u) e)
+
+-- the first powers, one for each digit that is still to be written
+pub record Front (ps : List ℕ) : Type 0 where
+  pub few : length ps ≤ 20
+  pub at : (k : ℕ) → k < length ps → get_or ps k 0 ≡ 10 ^ k
+
+-- they begin as the list's front
+pub front_start : (ps all : List ℕ) (w : ℕ) → ps ≡ take w all → length all ≡ 20 → w ≤ 20 → Powers all → (length ps ≡ w) × Front ps
+front_start ps all w e a m p =
+    let n : length ps ≡ w = ap length e ∙ length-take-le w all (omega arith) in (
+      n,
+      record {
+        few = omega arith;
+        at = λ (k : ℕ) (h : k < length ps). ap (λ (l : List ℕ). get_or l k 0) e ∙ get_or-take w all k 0 (omega arith) ∙ p.at k (omega arith);
+      },
+    )
+
+-- the last of them
+pub front_last : (ps qs : List ℕ) (p : ℕ) → ps ≡ qs ++ (p ∷ []) → Front ps → (length ps ≡ length qs + 1) × (p ≡ 10 ^ (length ps - 1)) × Front qs
+front_last ps qs p e f =
+    let n : length ps ≡ length qs + 1 = ap length e ∙ length_push qs p in
+    let m : length qs ≡ length ps - 1 = omega arith in (
+      n,
+      sym (get_or_push qs p 0 (length ps - 1) m) ∙ ap (λ (l : List ℕ). get_or l (length ps - 1) 0) (sym e) ∙ f.at (length ps - 1) (omega arith),
+      record {
+        few = omega (arith, f.few);
+        at = λ (k : ℕ) (h : k < length qs). sym (get_or_append_left qs (p ∷ []) 0 k h) ∙ ap (λ (l : List ℕ). get_or l k 0) (sym e) ∙ f.at k (omega arith);
+      },
+    )
+
+-- ten times the last is the power of all digits
+pub power_next : (i p : ℕ) → 0 < i → p ≡ 10 ^ (i - 1) → 10 ^ i ≡ 10 * p
+power_next i p h e =
+    let s : i ≡ suc (i - 1) = omega arith in
+    let t : p * 10 ≡ 10 * p = omega arith in
+    ap (λ (k : ℕ). 10 ^ k) s ∙ pow-suc 10 (i - 1) ∙ ap (λ (x : ℕ). x * 10) (sym e) ∙ t

@@ -11,3 +11,4 @@ pub mod RoundTrip
 pub mod ReadSamples
 pub mod ReadFits
 pub mod RowLengths
+pub mod KindLaws

@@ -47,7 +47,8 @@ pub all_blank : (t : Tables) (l : List ℕ) (n : ℕ) → length l ≤ run is_fe
 all_blank t [] n h = refl
 all_blank t (b ∷ bs) n h = by_byte (λ k. all_blank t bs (n + 1) k) (eqb b 10) h
   where
-    by_byte : (length bs ≤ run is_feed bs → ended t (lines_of bs) (n + 1) ≡ tables t) → (s : Bool) → suc (length bs) ≤ cond s (suc (run is_feed bs)) 0 → ended t (cond s ([] ∷ lines_of bs) (onto b (lines_of bs))) n ≡ tables t
+    by_byte : (length bs ≤ run is_feed bs → ended t (lines_of bs) (n + 1) ≡ tables t) → (s : Bool) → suc (length bs) ≤ cond s (suc (run is_feed bs)) 0
+        → ended t (cond s ([] ∷ lines_of bs) (onto b (lines_of bs))) n ≡ tables t
     by_byte more true k = more (omega arith)
     by_byte more false k = absurd (omega arith)
 

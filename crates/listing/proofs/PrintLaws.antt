@@ -9,6 +9,12 @@ use native.Mathlib.Numerals.{add-one, sub-one}
 use lib.ListN.{length, set, take, drop, get_or, length-set}
 use lib.Seq.{sets, sets-eq}
 use lib.Dec.{ltb, eqb}
+use lib.IntN.{ℤ, pos, negsuc}
+use lib.Signed.{lt_z}
+use mir.Syntax.{w64}
+use mir.Val.{to_z, of_z, sel}
+use Rattle.std.specs.Int.RustNames.{unsigned_abs}
+use Rattle.std.proofs.lemmas.Int.{of_z-to_z}
 use borrow.Author.Tests.{lt-ltb, le-ltb, ltb-true, ltb-false, eq-eqb, ne_eqb}
 use Rattle.opcode.specs.Names.{bytes, names}
 use Rattle.listing.specs.Read.{value_from}
@@ -17,6 +23,8 @@ use Rattle.std.specs.Option.{unwrap_or}
 use Rattle.std.specs.List.{find, range_with_len}
 use Rattle.listing.proofs.WriterLaws.{left_next, left_none}
 use Rattle.listing.specs.declared.text.Writer.{Writer}
+use Rattle.listing.specs.declared.print.Line.{Line}
+use Rattle.listing.specs.Kinds.{line_of}
 use Rattle.listing.specs.Print.{wrote, Wrote, after, digits, digit, hex_digits, hex_digit, int, decimal, joined}
 use Rattle.listing.specs.Print.{head_row, loops_row, code_rows, const_rows}
 use Rattle.listing.specs.Print.{plain_rows, upvalue_rows, names_text, function_text, functions_text, error_rows, listing_text}
@@ -56,6 +64,36 @@ pub int_minus : (high low n : ℕ) → 2147483648 ≤ high → n ≡ 18446744073
 unfolding int
 int_minus high low n h e = ap (λ (m : ℕ). 45 ∷ decimal m) e
     ∙ sym (ap (λ (b : Bool). cond b (decimal (joined high low)) (45 ∷ decimal (18446744073709551616 - joined high low))) (le-ltb high 2147483648 h))
+
+-- the sign and the magnitude of the integer whose bits are j
+int_back : (z : ℤ) (j : ℕ) → j < 18446744073709551616 → z ≡ to_z w64 j → to_z w64 (of_z w64 z) ≡ to_z w64 j
+int_back z j h s = ap (to_z w64) (ap (of_z w64) s ∙ of_z-to_z w64 j h)
+
+int_below : (j : ℕ) (b : Bool) → j < 18446744073709551616 → ltb j 9223372036854775808 ≡ b
+    → lt_z (sel b (pos j) (negsuc (18446744073709551616 - suc j))) (pos 0) ≡ true
+    → (9223372036854775808 ≤ j) × (unsigned_abs (sel b (pos j) (negsuc (18446744073709551616 - suc j))) ≡ 18446744073709551616 - j)
+int_below j true h e t = let a : j < 0 = ltb-true j 0 t in absurd (omega arith)
+int_below j false h e t = let a = ltb-false j 9223372036854775808 e in (a, omega arith)
+
+int_above : (j : ℕ) (b : Bool) → ltb j 9223372036854775808 ≡ b
+    → lt_z (sel b (pos j) (negsuc (18446744073709551616 - suc j))) (pos 0) ≡ false
+    → (j < 9223372036854775808) × (unsigned_abs (sel b (pos j) (negsuc (18446744073709551616 - suc j))) ≡ j)
+int_above j true e t = (ltb-true j 9223372036854775808 e, refl)
+int_above j false e t = cc
+
+pub below_zero : (z : ℤ) (j : ℕ) → j < 18446744073709551616 → z ≡ to_z w64 j → lt_z (to_z w64 (of_z w64 z)) (pos 0) ≡ true
+    → (9223372036854775808 ≤ j) × (unsigned_abs (to_z w64 (of_z w64 z)) ≡ 18446744073709551616 - j)
+below_zero z j h s t =
+    let e = int_back z j h s in
+    let f = int_below j (ltb j 9223372036854775808) h refl (ap (λ (x : ℤ). lt_z x (pos 0)) (sym e) ∙ t) in
+    (f.0, ap unsigned_abs e ∙ f.1)
+
+pub from_zero : (z : ℤ) (j : ℕ) → j < 18446744073709551616 → z ≡ to_z w64 j → lt_z (to_z w64 (of_z w64 z)) (pos 0) ≡ false
+    → (j < 9223372036854775808) × (unsigned_abs (to_z w64 (of_z w64 z)) ≡ j)
+from_zero z j h s t =
+    let e = int_back z j h s in
+    let f = int_above j (ltb j 9223372036854775808) refl (ap (λ (x : ℤ). lt_z x (pos 0)) (sym e) ∙ t) in
+    (f.0, ap unsigned_abs e ∙ f.1)
 
 less : (n i : ℕ) → i < n → n - i ≡ suc (n - (i + 1))
 less n i h = omega arith
@@ -112,12 +150,11 @@ params_some recs r i d a e b =
     ap (λ (x : ℕ). idents (size recs) recs x i) b ∙ ap (λ (x : ℕ). idents (size recs) recs (word recs r 1) x) a
     ∙ sym (ap (λ (t : Bool). cond t (45 ∷ []) (idents (size recs) recs (word recs r 1) (first recs r))) (ne_eqb (first recs r) 0 (λ x. e (a ∙ x))))
 
-pub function_text_lem : (f : ℕ) (symbols recs line markers constants names : List ℕ) (d m k l g u : ℕ) → d ≡ get_or line 6 0 → m ≡ get_or line 0 0 → k ≡ get_or line 2 0
-    → l ≡ get_or line 3 0 → g ≡ get_or line 4 0 → u ≡ get_or line 5 0
-    → head_row f recs ++ loops_row f d ++ code_rows f markers m ++ const_rows f constants k ++ names_text f symbols names l g u
+pub function_text_lem : (f : ℕ) (symbols recs line markers constants names : List ℕ) (l : Line) → l ≡ line_of line
+    → head_row f recs ++ loops_row f l.depth ++ code_rows f markers l.markers ++ const_rows f constants l.constants ++ names_text f symbols names l.locals l.globals l.upvalues
     ≡ function_text f symbols recs line markers constants names
 unfolding function_text
-function_text_lem f symbols recs line markers constants names d m k l g u a b e h i j = cc
+function_text_lem f symbols recs line markers constants names l e = rw e refl
 
 pub names_is : (f : ℕ) (symbols names : List ℕ) (l g u : ℕ) (globals upvalues : List ℕ) → globals ≡ drop (l * 3) names → upvalues ≡ drop (g * 3) globals
     → plain_rows f (bytes "local") symbols names l ++ plain_rows f (bytes "global") symbols globals g ++ upvalue_rows f upvalues u ≡ names_text f symbols names l g u

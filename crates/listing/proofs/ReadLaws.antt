@@ -1,17 +1,20 @@
 -- Laws of genlist's reader: a run of bytes, decimal values digit by digit, and the values of a line.
-use Rattle.std.proofs.Common.{◌≡◌, refl, sym, ap, subst, ◌∙◌, Bool, true, false, cond, not, ◌&&◌, List, [], ◌∷◌, ◌++◌, append_assoc, Option, Some, None, ℕ, suc, ◌+◌, ◌*◌, ◌-◌, ◌≤◌, ◌<◌, length, take, drop, set, get_or, arith}
+use Rattle.std.proofs.Common.{length-append, length-take, ◌≡◌, refl, sym, ap, subst, ◌∙◌, Bool, true, false, cond, not, ◌&&◌, List, [], ◌∷◌}
+use Rattle.std.proofs.Common.{◌++◌, append_assoc, Option, Some, None, ℕ, suc, ◌+◌, ◌*◌, ◌-◌, ◌≤◌, ◌<◌, length, take, drop, set, get_or, arith}
 use Rattle.std.specs.List.{position_or_len}
+use Rattle.std.specs.Char.{IsDigitOf, NotDecimalDigitIn}
+use Rattle.std.proofs.lemmas.Bool.Decides.{nat_tests}
 use Rattle.std.proofs.lemmas.List.Recursion.{is_position_or_len}
 use mathlib.Core.List.{append-nil}
 use native.Mathlib.Numerals.{add-one}
-use lib.ListN.{drop_of_length-le, length-drop, length-take, length-append}
+use lib.ListN.{drop_of_length-le, length-drop}
 use lib.Seq.{drop-cons, drop-drop, take-suc-set, take-length}
 use lib.Dec.{leb, eqb}
 use lib.Pointwise.{pointwise}
 use borrow.Author.Tests.{le-leb, lt-leb}
 use Rattle.listing.specs.Read.{is_digit, all_digits, value_from, value_of, some_bytes, decimal_of, pair_of}
 use Rattle.listing.specs.Lines.{run}
-use Rattle.listing.specs.Read.{is_space, gap, put, when_over, field, values_from, pairs_of, is_dash, string_of}
+use Rattle.listing.specs.Read.{gap, put, when_over, field, values_from, pairs_of, is_dash, string_of}
 
 -- a list from a place on is its element there and the list after it
 pub at_place : (l : List ℕ) (i : ℕ) → i < length l → drop i l ≡ get_or l i 0 ∷ drop (i + 1) l
@@ -34,9 +37,12 @@ first_step false n = refl
 pub run_first : (p : ℕ → Bool) (l : List ℕ) → run p l ≡ position_or_len (λ b. not (p b)) l
 run_first p l = is_position_or_len (run p) (λ b. not (p b)) refl (λ x xs. first_step (p x) (run p xs)) l
 
-pub all_on : (l : List ℕ) (i : ℕ) → i < length l → is_digit (get_or l i 0) ≡ true → all_digits (drop (i + 1) l) ≡ all_digits (drop i l)
-all_on l i h e =
-    sym (ap all_digits (at_place l i h) ∙ ap (λ (t : Bool). t && all_digits (drop (i + 1) l)) e)
+-- what `to_digit` says of a byte
+pub digit_read : (b d : ℕ) → IsDigitOf b d → d < 10 → (is_digit b ≡ true) × (d ≡ b - 48)
+digit_read b d h l = (grind (arith, nat_tests), grind arith)
+
+pub no_digit : (b : ℕ) → NotDecimalDigitIn 10 b → is_digit b ≡ false
+no_digit b h = grind (arith, nat_tests)
 
 pub all_off : (l : List ℕ) (i : ℕ) → i < length l → is_digit (get_or l i 0) ≡ false → all_digits (drop i l) ≡ false
 all_off l i h e = ap all_digits (at_place l i h) ∙ ap (λ (t : Bool). t && all_digits (drop (i + 1) l)) e
@@ -93,14 +99,6 @@ decimal_value (b ∷ bs) v n e h q =
     ∙ sym
     (ap (λ (t : Bool). cond (t && leb (value_of (b ∷ bs)) 4294967295) (Some (value_of (b ∷ bs))) None) e
     ∙ ap (λ (t : Bool). cond t (Some (value_of (b ∷ bs))) None) s)
-
-gap_le : (k : ℕ) (l : List ℕ) → gap k l ≤ length l
-unfolding gap
-gap_le k l = picked (eqb k 0)
-  where
-    picked : (t : Bool) → cond t 0 (run is_space l) ≤ length l
-    picked true = omega arith
-    picked false = run_le is_space l
 
 -- what is read, before what is still to come
 abbrev pub joined : List ℕ → Option (List ℕ) → Option (List ℕ)
@@ -226,6 +224,14 @@ fewer_digits (b ∷ c ∷ l) h n = absurd (omega arith)
 no_digits : (l : List ℕ) → length l ≡ 0 → pairs_of l ≡ Some []
 no_digits [] h = refl
 no_digits (b ∷ bs) h = absurd (omega arith)
+
+-- a chunk of two digits, and what is left
+pub two_taken : (l ds rest : List ℕ) → l ≡ ds ++ rest → length ds ≡ 2
+    → (pair_of (get_or l 0 0) (get_or l 1 0) ≡ pair_of (get_or ds 0 0) (get_or ds 1 0)) × (drop 2 l ≡ rest)
+two_taken l [] rest e h = absurd (omega arith)
+two_taken l (b ∷ []) rest e h = absurd (omega arith)
+two_taken l (b ∷ c ∷ []) rest e h = rw e (refl, refl)
+two_taken l (b ∷ c ∷ d ∷ ds) rest e h = absurd (omega arith)
 
 -- a turn of the loop over a string's digits, with W the string
 module _ (rest out : List ℕ) (count : ℕ) (W : Option (List ℕ)) (inv : joined (take count out) (pairs_of rest) ≡ W) where

@@ -1,14 +1,9 @@
 -- Laws of a table's lines: what the loop over them has read so far.
 use Rattle.std.proofs.Common.{◌≡◌, refl, sym, ap, ◌∙◌, Bool, true, false, cond, ◌||◌, List, [], ◌∷◌, ◌++◌, append_assoc, Option, Some, None, ℕ, ◌+◌, ◌≤◌, ◌<◌, length, take, arith}
-use mathlib.Core.List.{append-nil}
 use lib.Dec.{leb, ltb}
 use borrow.Author.Tests.{le-leb, lt-leb, lt-ltb, le-ltb}
 use Rattle.listing.specs.Read.{values_of}
 use Rattle.listing.specs.Text.{Block, got, stop, onward, before, rows_of}
-
-pub onward_none : (b : Block (List ℕ)) → onward [] b ≡ b
-onward_none (stop m) = refl
-onward_none (got ws ls m) = refl
 
 onward_twice : (vs ws : List ℕ) (b : Block (List ℕ)) → onward vs (onward ws b) ≡ onward (vs ++ ws) b
 onward_twice vs ws (stop m) = refl
@@ -41,24 +36,6 @@ module _ (count most room : ℕ) (last : Bool) (n used : ℕ) (out : List ℕ) (
     (inv : onward (take used out) (rows_of count most room last n used ls) ≡ W) where
   closed : rows_of count most room last n used ls ≡ stop n → W ≡ stop n
   closed e = sym inv ∙ ap (onward (take used out)) e
-
-  -- the end of the text
-  pub rows_over : ls ≡ [] → last ≡ false → W ≡ stop n
-  rows_over e f = closed (ap (rows_of count most room last n used) e ∙ ap (λ (t : Bool). cond t (got [] [] n) (stop n)) f)
-
-  pub rows_end : ls ≡ [] → last ≡ true → W ≡ got (take used out) [] n
-  rows_end e f =
-      sym inv
-      ∙ ap (λ (x : List (List ℕ)). onward (take used out) (rows_of count most room last n used x)) e
-      ∙ ap (λ (t : Bool). onward (take used out) (cond t (got [] [] n) (stop n))) f
-      ∙ ap (λ (x : List ℕ). got x [] n) (append-nil (take used out))
-
-  pub rows_blank : (l : List ℕ) (rest : List (List ℕ)) → ls ≡ l ∷ rest → length l ≡ 0 → W ≡ got (take used out) rest (n + 1)
-  rows_blank [] rest e h =
-      sym inv
-      ∙ ap (λ (x : List (List ℕ)). onward (take used out) (rows_of count most room last n used x)) e
-      ∙ ap (λ (x : List ℕ). got x rest (n + 1)) (append-nil (take used out))
-  rows_blank (b ∷ bs) rest e h = absurd (omega arith)
 
   module _ (l : List ℕ) (rest : List (List ℕ)) (lines : ls ≡ l ∷ rest) (some : 0 < length l) where
     opened : rows_of count most room last n used ls

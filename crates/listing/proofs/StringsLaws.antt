@@ -1,5 +1,6 @@
 -- Laws of table 1's lines: what is stored of a string, and what the loop over the lines has read so far.
-use Rattle.std.proofs.Common.{◌≡◌, refl, sym, ap, subst, ◌∙◌, Bool, true, false, cond, ◌||◌, ◌⊎◌, List, [], ◌∷◌, ◌++◌, append_assoc, Option, Some, None, ℕ, suc, ◌+◌, ◌-◌, ◌≤◌, ◌<◌, length, take, drop, set, arith}
+use Rattle.std.proofs.Common.{◌≡◌, refl, sym, ap, subst, ◌∙◌, Bool, true, false, cond, ◌||◌, ◌⊎◌, List, [], ◌∷◌}
+use Rattle.std.proofs.Common.{◌++◌, append_assoc, Option, Some, None, ℕ, suc, ◌+◌, ◌-◌, ◌≤◌, ◌<◌, length, take, drop, set, arith}
 use mathlib.Core.List.{append-nil}
 use mathlib.Core.Logic.{inl, inr, ⊎_elim}
 use native.Mathlib.Numerals.{add-one}
@@ -43,10 +44,6 @@ pair_set l i h m k =
     ∙ ap (λ (xs : List ℕ). xs ++ (m ∷ [])) (ap (λ (x : ℕ). take x (set l i h)) (add-one i) ∙ take-suc-set l i h (omega arith))
     ∙ append_assoc (take i l) (h ∷ []) (m ∷ [])
 
-pub onward_text_none : (b : Block (List ℕ × List ℕ)) → onward_text [] [] b ≡ b
-onward_text_none (stop m) = refl
-onward_text_none (got x ls m) = refl
-
 onward_twice : (vs ws bs cs : List ℕ) (b : Block (List ℕ × List ℕ)) → onward_text vs bs (onward_text ws cs b) ≡ onward_text (vs ++ ws) (bs ++ cs) b
 onward_twice vs ws bs cs (stop m) = refl
 onward_twice vs ws bs cs (got x ls m) =
@@ -81,17 +78,6 @@ module _ (room1 room2 n used held : ℕ) (strings bytes : List ℕ) (ls : List (
     (inv : onward_text (take used strings) (take held bytes) (strings_of room1 room2 n used held ls) ≡ W) where
   closed : strings_of room1 room2 n used held ls ≡ stop n → W ≡ stop n
   closed e = sym inv ∙ ap (onward_text (take used strings) (take held bytes)) e
-
-  pub text_over : ls ≡ [] → W ≡ stop n
-  text_over e = closed (ap (strings_of room1 room2 n used held) e)
-
-  pub text_blank : (l : List ℕ) (rest : List (List ℕ)) → ls ≡ l ∷ rest → length l ≡ 0 → W ≡ got (take used strings, take held bytes) rest (n + 1)
-  text_blank [] rest e h =
-      sym inv
-      ∙ ap (λ (x : List (List ℕ)). onward_text (take used strings) (take held bytes) (strings_of room1 room2 n used held x)) e
-      ∙ ap (λ (x : List ℕ). got (x, (take held bytes ++ [])) rest (n + 1)) (append-nil (take used strings))
-      ∙ ap (λ (x : List ℕ). got (take used strings, x) rest (n + 1)) (append-nil (take held bytes))
-  text_blank (b ∷ bs) rest e h = absurd (omega arith)
 
   module _ (l : List ℕ) (rest : List (List ℕ)) (lines : ls ≡ l ∷ rest) (some : 0 < length l) where
     opened : strings_of room1 room2 n used held ls

@@ -4,3 +4,4 @@ pub mod Text
 pub mod Places
 pub mod Print
 pub mod Printed
+pub mod Kinds

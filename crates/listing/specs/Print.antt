@@ -1,5 +1,6 @@
 -- What is printed: bytes into a lent buffer from a place on, and the texts of numbers. Definitions only.
-use Rattle.std.specs.Prelude.{Option, Some, None, Bool, true, false, cond, List, [], ◌∷◌, ◌++◌, ◌≡◌, ℕ, zero, suc, ◌+◌, ◌-◌, ◌*◌, ◌/◌, ◌%◌, ◌^◌, ◌≤◌, ◌<◌, min, length, set, get_or, drop, ltb, eqb}
+use Rattle.std.specs.Prelude.{Option, Some, None, Bool, true, false, cond, List, [], ◌∷◌, ◌++◌, ◌≡◌, ℕ, zero, suc}
+use Rattle.std.specs.Prelude.{◌+◌, ◌-◌, ◌*◌, ◌/◌, ◌%◌, ◌^◌, ◌≤◌, ◌<◌, min, length, set, get_or, drop, ltb, eqb}
 use Rattle.opcode.specs.Names.{bytes, name}
 use Rattle.opcode.specs.Kinds.{operand_kind}
 use Rattle.opcode.specs.declared.opcode.OperandKind.{OperandKind}

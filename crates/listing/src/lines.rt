@@ -10,8 +10,15 @@ pub struct Lines<'a> {
     pub ghost numbered: { number + length rest.now ≤ 2 ^ 63 },
 }
 
+// A line without its line feed, and its number.
+#[derive(Clone, Copy)]
+pub struct Line<'a> {
+    pub bytes: &'a [u8],
+    pub number: usize,
+}
+
 // How many bytes at the start pass a test.
-pub fn run<F: Fn(u8) -> bool>(bytes: &[u8], test: F) -> usize
+pub(crate) fn run<F: Fn(u8) -> bool>(bytes: &[u8], test: F) -> usize
     requires { F.IsAlwaysCallable test }
     ensures value { (p : ℕ → Bool) → ((b : ℕ) (r : Bool) → F.post test b r → r ≡ p b) → result ≡ run p bytes.now }
     ensures bound { result ≤ length bytes.now }
@@ -20,16 +27,17 @@ pub fn run<F: Fn(u8) -> bool>(bytes: &[u8], test: F) -> usize
 }
 
 impl<'a> Lines<'a> {
-    pub fn next_line(&mut self) -> Option<&'a [u8]>
+    pub fn next_line(&mut self) -> Option<Line<'a>>
         ensures { MatchOption result (Over self.old.rest.now self.old.number self.new.rest.now self.new.number)
-            (λ line. Took self.old.rest.now self.old.number line.now self.new.rest.now self.new.number) }
+            (λ line. Took self.old.rest.now self.old.number line.bytes.now self.new.rest.now self.new.number × (line.number ≡ self.old.number)) }
     {
         if self.rest.is_empty() {
             return None;
         }
-        let (line, rest) = self.rest.split_at(run(self.rest, |b| b != b'\n'));
+        let (bytes, rest) = self.rest.split_at(run(self.rest, |b| b != b'\n'));
+        let number = self.number;
         self.rest = rest.get(1..).unwrap_or(rest);
         self.number += 1;
-        Some(line)
+        Some(Line { bytes, number })
     }
 }

@@ -2,18 +2,21 @@
 ghost use Rattle.std.specs.Prelude.{◌≡◌, ℕ, List, ◌+◌, ◌*◌, ◌/◌, ◌≤◌, ◌<◌, min, drop, get_or, length};
 ghost use Rattle.std.specs.Borrow.{MutBor};
 ghost use Rattle.listing.specs.declared.text.Writer.{Writer};
-ghost use Rattle.tables.specs.Record.{size as size_of};
+ghost use Rattle.tables.specs.Record.{word, size as size_of};
 ghost use Rattle.listing.specs.Print.{after, rows_from, beginning, takes_of, has_operand, operand_text, code_at, const_name, const_value, const_at};
 ghost use Rattle.listing.specs.Print.{plain_at, capture_name, upvalue_at, is_function, record_of, function_kind, optional, last_param, idents};
 ghost use Rattle.listing.specs.Print.{params as params_text, head_row, loops_row, names_text, function_text, functions_text};
 ghost use Rattle.listing.specs.Print.{error_name, error_row, error_rows, listing_text, refusal_text, input_text};
+ghost use Rattle.listing.specs.Kinds.{value_text, line_of};
 
+use crate::kinds::{Capture, ConstKind, ErrorKind, function_name};
 use crate::text::Writer;
 use opcode::opcode::OperandKind;
 use opcode::tables::operand_kind;
-use tables::ast::{detail, first, kind, next, p, q, size};
-use tables::kind::FUNCTION;
-use tables::semantic::{entry, symbol_name};
+use tables::ast::{first, flag, function_kind, kind, next, p, q, size};
+use tables::kind::Kind;
+use tables::semantic::{NONE, entry, symbol_name};
+use tables::slices;
 
 // What a listing is printed from: two of the tables, and what the call wrote.
 #[derive(Clone, Copy)]
@@ -40,36 +43,14 @@ fn begin(w: &mut Writer, function: u64, section: &[u8], place: u32)
     w.put(b' ');
 }
 
-fn takes(kind: OperandKind) -> bool
-    ensures { result ≡ takes_of kind }
-{
-    match kind {
-        OperandKind::None => false,
-        OperandKind::Count => true,
-        OperandKind::Type => true,
-        OperandKind::Label => true,
-        OperandKind::Const => true,
-        OperandKind::Local => true,
-        OperandKind::Global => true,
-        OperandKind::Upvalue => true,
-    }
-}
-
-fn has_operand(found: Option<OperandKind>) -> bool
-    ensures { result ≡ has_operand found }
-{
-    found.is_some_and(takes)
-}
-
 // A code without an operand has `-`.
 #[tactic(auto, unfolding(crate::specs::Print::operand_text))]
 fn put_operand(w: &mut Writer, code: u32, operand: u32)
     ensures { w.new ≡ after (operand_text code operand) w.old }
 {
-    if has_operand(operand_kind(code)) {
-        w.number(operand as u64);
-    } else {
-        w.put(b'-');
+    match operand_kind(code) {
+        None | Some(OperandKind::None) => w.put(b'-'),
+        Some(_) => w.number(u64::from(operand)),
     }
 }
 
@@ -98,56 +79,27 @@ fn code_row(w: &mut Writer, function: u64, place: u32, markers: &[u32])
     w.text(b" -\n");
 }
 
-// "A const has its kind's name"
-#[tactic(auto, unfolding(crate::specs::Print::const_name))]
-fn const_name(kind: u32) -> &'static [u8]
-    ensures { result.now ≡ const_name kind }
-{
-    match kind {
-        0 => b"Null",
-        1 => b"Bool",
-        2 => b"Int",
-        3 => b"Float",
-        4 => b"Str",
-        5 => b"Bytes",
-        6 => b"Function",
-        7 => b"Effect",
-        8 => b"Yield",
-        _ => b"",
-    }
-}
-
-// Kinds of constants whose value is more, or less, than its first word.
-const NULL: u32 = 0;
-
-const INT: u32 = 2;
-
-const FLOAT: u32 = 3;
-
-const YIELD: u32 = 8;
-
 // "`-` for Null and Yield, Int signed, Float 16 small hexadecimal digits, else its first word"
-#[tactic(auto, unfolding(crate::specs::Print::const_value))]
-fn const_value(w: &mut Writer, kind: u32, low: u32, high: u32)
-    ensures { w.new ≡ after (const_value kind low high) w.old }
+fn const_value(w: &mut Writer, kind: ConstKind, low: u32, high: u32)
+    ensures { w.new ≡ after (value_text kind low high) w.old }
 {
     match kind {
-        NULL | YIELD => w.put(b'-'),
-        INT => w.signed(high, low),
-        FLOAT => w.hex16(high, low),
-        _ => w.number(low as u64),
+        ConstKind::Null | ConstKind::Yield => w.put(b'-'),
+        ConstKind::Int => w.signed(high, low),
+        ConstKind::Float => w.hex16(high, low),
+        _ => w.number(u64::from(low)),
     }
 }
 
 // A constant, of three words.
-#[tactic(auto, using(crate::proofs::WriterLaws::after_append), unfolding(crate::specs::Print::const_row))]
+#[tactic(auto, using(crate::proofs::WriterLaws::after_append, crate::proofs::KindLaws::const_named, crate::proofs::KindLaws::valued), unfolding(crate::specs::Print::const_row))]
 fn const_row(w: &mut Writer, function: u64, place: u32, constants: &[u32])
     ensures { w.new ≡ after (const_at function constants.now place) w.old }
 {
     let j = place as usize * 3;
-    let kind = entry(constants, j);
+    let kind = ConstKind::from(entry(constants, j));
     begin(w, function, b"const", place);
-    w.text(const_name(kind));
+    w.text(kind.name());
     w.put(b' ');
     const_value(w, kind, entry(constants, j + 1), entry(constants, j + 2));
     w.text(b" -\n");
@@ -167,39 +119,24 @@ fn plain_row(
 {
     let symbol = entry(names, place as usize * 3);
     begin(w, function, section, place);
-    w.number(symbol_name(symbols, symbol as usize) as u64);
+    w.number(u64::from(symbol_name(symbols, symbol as usize)));
     w.text(b" - ");
-    w.number(symbol as u64);
+    w.number(u64::from(symbol));
     w.put(b'\n');
 }
 
-// The capture word of a local.
-const LOCAL: u32 = 1;
-
-// "capture word"
-#[tactic(auto, unfolding(crate::specs::Print::capture_name))]
-fn capture_name(capture: u32) -> &'static [u8]
-    ensures { result.now ≡ capture_name capture }
-{
-    if capture == LOCAL {
-        b"Local"
-    } else {
-        b"Upvalue"
-    }
-}
-
 // An upvalue, of three words.
-#[tactic(auto, using(crate::proofs::WriterLaws::after_append), unfolding(crate::specs::Print::upvalue_row))]
+#[tactic(auto, using(crate::proofs::WriterLaws::after_append, crate::proofs::KindLaws::capture_named), unfolding(crate::specs::Print::upvalue_row))]
 fn upvalue_row(w: &mut Writer, function: u64, place: u32, names: &[u32])
     ensures { w.new ≡ after (upvalue_at function names.now place) w.old }
 {
     let j = place as usize * 3;
     begin(w, function, b"upvalue", place);
-    w.text(capture_name(entry(names, j + 1)));
+    w.text(Capture::from(entry(names, j + 1)).name());
     w.put(b' ');
-    w.number(entry(names, j + 2) as u64);
+    w.number(u64::from(entry(names, j + 2)));
     w.put(b' ');
-    w.number(entry(names, j) as u64);
+    w.number(u64::from(entry(names, j)));
     w.put(b'\n');
 }
 
@@ -208,7 +145,7 @@ fn upvalue_row(w: &mut Writer, function: u64, place: u32, names: &[u32])
 fn is_function(recs: &[u32], r: usize, n: u64) -> bool
     ensures { result ≡ is_function recs.now n r }
 {
-    kind(recs, r) == FUNCTION && p(recs, r) as u64 == n
+    kind(recs, r) == Kind::Function && u64::from(p(recs, r)) == n
 }
 
 // Function n's record, 0 where there is none.
@@ -220,22 +157,6 @@ fn record_of(recs: &[u32], n: u64) -> usize
         .unwrap_or(0)
 }
 
-// "30 Function (0 Function, 1 Closure, 2 Do"
-#[tactic(auto, unfolding(crate::specs::Print::function_kind))]
-fn function_kind(kind: u32) -> &'static [u8]
-    ensures { result.now ≡ function_kind kind }
-{
-    match kind {
-        0 => b"Function",
-        1 => b"Closure",
-        2 => b"Do",
-        _ => b"",
-    }
-}
-
-// The word of a name that there is none of.
-const NONE: u32 = 0xffff_ffff;
-
 // A function's name string: none has `-`.
 #[tactic(auto, unfolding(crate::specs::Print::optional))]
 fn put_optional(w: &mut Writer, string: u32)
@@ -244,36 +165,33 @@ fn put_optional(w: &mut Writer, string: u32)
     if string == NONE {
         w.put(b'-');
     } else {
-        w.number(string as u64);
+        w.number(u64::from(string));
     }
 }
-
-// The detail of parameters that end in a variadic.
-const VARIADIC: u32 = 1;
 
 // "`*` before the variadic", which is the last.
 #[tactic(auto, using(crate::proofs::WriterLaws::after_cons), unfolding(crate::specs::Print::last_param))]
-fn last_param(w: &mut Writer, detail: u32, string: u32)
-    ensures { w.new ≡ after (last_param detail string) w.old }
+fn last_param(w: &mut Writer, recs: &[u32], list: usize, string: u32)
+    ensures { w.new ≡ after (last_param (word recs.now list 1) string) w.old }
 {
-    if detail == VARIADIC {
+    if flag(recs, list) {
         w.put(b'*');
     }
-    w.number(string as u64);
+    w.number(u64::from(string));
 }
 
-// The name strings of the Idents from record r on, with commas.
-fn put_idents(w: &mut Writer, recs: &[u32], detail: u32, from: usize)
-    ensures { w.new ≡ after (idents (size_of recs.now) recs.now detail from) w.old }
+// The name strings of the Idents from record `from` on, with commas.
+fn put_idents(w: &mut Writer, recs: &[u32], list: usize, from: usize)
+    ensures { w.new ≡ after (idents (size_of recs.now) recs.now (word recs.now list 1) from) w.old }
 {
     let mut r = from;
-    for i in 0..size(recs) {
+    for _ in 0..size(recs) {
         let string = q(recs, r);
         r = next(recs, r);
         if r == 0 {
-            return last_param(w, detail, string);
+            return last_param(w, recs, list, string);
         }
-        w.number(string as u64);
+        w.number(u64::from(string));
         w.put(b',');
     }
 }
@@ -286,17 +204,17 @@ fn params(w: &mut Writer, recs: &[u32], list: usize)
     if i == 0 {
         w.put(b'-');
     } else {
-        put_idents(w, recs, detail(recs, list), i);
+        put_idents(w, recs, list, i);
     }
 }
 
-#[tactic(auto, using(crate::proofs::WriterLaws::after_append), unfolding(crate::specs::Print::head_at))]
+#[tactic(auto, using(crate::proofs::WriterLaws::after_append, crate::proofs::KindLaws::function_named), unfolding(crate::specs::Print::head_at))]
 fn head_row(w: &mut Writer, function: u64, recs: &[u32])
     ensures { w.new ≡ after (head_row function recs.now) w.old }
 {
     let r = record_of(recs, function);
     begin(w, function, b"head", 0);
-    w.text(function_kind(detail(recs, r)));
+    w.text(function_name(function_kind(recs, r)));
     w.put(b' ');
     put_optional(w, q(recs, r));
     w.put(b' ');
@@ -310,15 +228,8 @@ fn loops_row(w: &mut Writer, function: u64, depth: u32)
 {
     begin(w, function, b"head", 1);
     w.text(b"Loops ");
-    w.number(depth as u64);
+    w.number(u64::from(depth));
     w.text(b" -\n");
-}
-
-// What is left after so many words.
-fn skip(words: &[u32], by: usize) -> &[u32]
-    ensures { result.now ≡ drop by words.now }
-{
-    &words[by.min(words.len())..]
 }
 
 // A function's line: how many markers, constants and names are its own, and how deep its loops go.
@@ -332,21 +243,18 @@ struct Line {
     depth: u32,
 }
 
-fn first_line(words: &[u32]) -> Line
-    ensures markers { result.markers ≡ get_or words.now 0 0 }
-    ensures constants { result.constants ≡ get_or words.now 2 0 }
-    ensures locals { result.locals ≡ get_or words.now 3 0 }
-    ensures globals { result.globals ≡ get_or words.now 4 0 }
-    ensures upvalues { result.upvalues ≡ get_or words.now 5 0 }
-    ensures depth { result.depth ≡ get_or words.now 6 0 }
-{
-    Line {
-        markers: entry(words, 0),
-        constants: entry(words, 2),
-        locals: entry(words, 3),
-        globals: entry(words, 4),
-        upvalues: entry(words, 5),
-        depth: entry(words, 6),
+impl From<&[u32]> for Line {
+    ghost from_gives = { λ words l. l ≡ line_of words.now };
+
+    fn from(words: &[u32]) -> Self {
+        Line {
+            markers: entry(words, 0),
+            constants: entry(words, 2),
+            locals: entry(words, 3),
+            globals: entry(words, 4),
+            upvalues: entry(words, 5),
+            depth: entry(words, 6),
+        }
     }
 }
 
@@ -359,13 +267,13 @@ fn names_rows(w: &mut Writer, function: u64, symbols: &[u32], names: &[u32], l: 
         l.locals,
         |w, i| plain_row(w, function, b"local", i, symbols, names),
     );
-    let left = skip(names, l.locals as usize * 3);
+    let left = slices::rest(names, l.locals as usize * 3);
     rows(
         w,
         l.globals,
         |w, i| plain_row(w, function, b"global", i, symbols, left),
     );
-    let last = skip(left, l.globals as usize * 3);
+    let last = slices::rest(left, l.globals as usize * 3);
     rows(w, l.upvalues, |w, i| upvalue_row(w, function, i, last));
 }
 
@@ -374,7 +282,7 @@ fn function_rows(w: &mut Writer, function: u64, s: &Source)
     ensures { w.new ≡ after (function_text function s.now.symbols.now s.now.records.now s.now.lines.now
         s.now.markers.now s.now.constants.now s.now.names.now) w.old }
 {
-    let l = first_line(s.lines);
+    let l = Line::from(s.lines);
     head_row(w, function, s.records);
     loops_row(w, function, l.depth);
     rows(w, l.markers, |w, i| code_row(w, function, i, s.markers));
@@ -396,13 +304,13 @@ fn rest<'a>(s: &Source<'a>) -> Source<'a>
     ensures names { result.names.now ≡ drop ((get_or s.now.lines.now 3 0 + get_or s.now.lines.now 4 0
         + get_or s.now.lines.now 5 0) * 3) s.now.names.now }
 {
-    let l = first_line(s.lines);
+    let l = Line::from(s.lines);
     let named = l.locals as usize + l.globals as usize + l.upvalues as usize;
     Source {
-        lines: skip(s.lines, 7),
-        markers: skip(s.markers, l.markers as usize * 2),
-        constants: skip(s.constants, l.constants as usize * 3),
-        names: skip(s.names, named * 3),
+        lines: slices::rest(s.lines, 7),
+        markers: slices::rest(s.markers, l.markers as usize * 2),
+        constants: slices::rest(s.constants, l.constants as usize * 3),
+        names: slices::rest(s.names, named * 3),
         ..*s
     }
 }
@@ -419,26 +327,13 @@ fn functions_rows(w: &mut Writer, s: &Source, count: usize)
     }
 }
 
-// "kind 0 Break, 1 Continue, 2 Return"
-#[tactic(auto, unfolding(crate::specs::Print::error_name))]
-fn error_name(kind: u32) -> &'static [u8]
-    ensures { result.now ≡ error_name kind }
-{
-    match kind {
-        0 => b"BreakOutsideLoop",
-        1 => b"ContinueOutsideLoop",
-        2 => b"ReturnOutsideFunction",
-        _ => b"",
-    }
-}
-
 fn error_row(w: &mut Writer, place: usize, kind: u32, start: u32, end: u32)
     ensures { w.new ≡ after (error_row place kind start end) w.old }
 {
     w.text(b"- error ");
     w.number(place as u64);
     w.put(b' ');
-    w.text(error_name(kind));
+    w.text(ErrorKind::from(kind).name());
     w.put(b' ');
     w.number(start as u64);
     w.put(b' ');

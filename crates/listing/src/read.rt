@@ -70,10 +70,8 @@ pub fn decimal(digits: &[u8]) -> Option<u32>
     }
     let mut value: u32 = 0;
     for &b in digits {
-        if !b.is_ascii_digit() {
-            return None;
-        }
-        value = value.checked_mul(10)?.checked_add((b - b'0') as u32)?;
+        let digit = (b as char).to_digit(10)?;
+        value = value.checked_mul(10)?.checked_add(digit)?;
     }
     Some(value)
 }
@@ -84,12 +82,7 @@ pub fn nibble(b: u8) -> Option<u8>
     ensures value { result ≡ nibble_of b }
     ensures bound { IfSome result (λ d. d < 16) }
 {
-    match b {
-        b'0'..=b'9' => Some(b - b'0'),
-        b'A'..=b'F' => Some(b - b'A' + 10),
-        b'a'..=b'f' => Some(b - b'a' + 10),
-        _ => None,
-    }
+    Some((b as char).to_digit(16)? as u8)
 }
 
 pub fn pair(high: u8, low: u8) -> Option<u8>
@@ -120,7 +113,7 @@ fn values(line: &[u8], out: &mut [u32]) -> Option<()>
         *value = decimal(digits)?;
         rest = after;
     }
-    if rest.is_empty() { Some(()) } else { None }
+    rest.is_empty().then_some(())
 }
 
 // A string's bytes, and how many they are.
@@ -130,18 +123,18 @@ fn hexadecimal(line: &[u8], out: &mut [u8]) -> Option<usize>
     if line == b"-".as_slice() {
         return Some(0);
     }
-    let mut count: usize = 0;
-    let mut rest = line;
-    while let [high, low, after @ ..] = rest {
+    for (k, digits) in line.chunks(2).enumerate() {
+        let [high, low] = digits else {
+            return None;
+        };
         let byte = pair(*high, *low)?;
-        if out.len() <= count {
+        if out.len() <= k {
             return None;
         }
-        out[count] = byte;
-        count += 1;
-        rest = after;
+        out[k] = byte;
     }
-    if rest.is_empty() { Some(count) } else { None }
+    // By a shift: outside the generator's call nothing divides.
+    Some(line.len() >> 1)
 }
 
 // One string: its offset and length in table 1, its bytes in table 2; how many bytes are held then.
@@ -180,18 +173,18 @@ fn string_lines(
 {
     let mut used: usize = 0;
     let mut held: usize = 0;
-    loop {
-        let unread = UnreadLine { line: lines.number };
-        let line = lines.next_line().ok_or(unread)?;
-        if line.is_empty() {
+    while let Some(line) = lines.next_line() {
+        let unread = UnreadLine { line: line.number };
+        if line.bytes.is_empty() {
             return Ok(Texts { used, held });
         }
         if STRINGS <= used {
             return Err(unread);
         }
-        held = string_entry(line, strings, used, bytes, held).ok_or(unread)?;
+        held = string_entry(line.bytes, strings, used, bytes, held).ok_or(unread)?;
         used += 2;
     }
+    Err(UnreadLine { line: lines.number })
 }
 
 // A table's lines of values.
@@ -200,24 +193,20 @@ fn rows(lines: &mut Lines, shape: Shape, out: &mut [u32]) -> Result<usize, Unrea
         out.old out.new lines.new.rest.now lines.new.number result }
 {
     let mut used: usize = 0;
-    loop {
-        let unread = UnreadLine { line: lines.number };
-        let Some(line) = lines.next_line() else {
-            return if shape.last { Ok(used) } else { Err(unread) };
-        };
-        if line.is_empty() {
+    while let Some(line) = lines.next_line() {
+        let unread = UnreadLine { line: line.number };
+        if line.bytes.is_empty() {
             return Ok(used);
         }
-        if shape.most <= used {
-            return Err(unread);
-        }
-        if out.len() - used < shape.count {
+        if shape.most <= used || out.len() - used < shape.count {
             return Err(unread);
         }
         let end = used + shape.count;
-        values(line, &mut out[used..end]).ok_or(unread)?;
+        values(line.bytes, &mut out[used..end]).ok_or(unread)?;
         used = end;
     }
+    let over = UnreadLine { line: lines.number };
+    shape.last.then_some(used).ok_or(over)
 }
 
 // Before a table's lines stands a line of names, which is any line.

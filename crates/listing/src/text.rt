@@ -36,17 +36,16 @@ fn powers() -> [u64; 20]
     POWERS
 }
 
-// How many digits n has.
+// How many digits n has: as many as there are powers up to it, and 0 has one.
 fn width(n: u64, powers: &[u64; 20]) -> usize
     requires { Powers powers.now }
     ensures { Wide n result }
 {
-    for w in 1..powers.len() {
-        if n < powers[w] {
-            return w;
-        }
-    }
-    powers.len()
+    powers
+        .iter()
+        .position(|&power| n < power)
+        .unwrap_or(powers.len())
+        .max(1)
 }
 
 // A number's first digit, and what is left of it.
@@ -74,13 +73,13 @@ fn hex_digit(n: u64) -> u8
     ensures { result ≡ hex_digit n }
 {
     let d = (n & 15) as u8;
-    if d < 10 { 48 + d } else { 87 + d }
+    if d < 10 { b'0' + d } else { b'a' + d - 10 }
 }
 
 fn joined(high: u32, low: u32) -> u64
     ensures { result ≡ joined_of high low }
 {
-    high as u64 * 4294967296 + low as u64
+    (high as u64) << 32 | low as u64
 }
 
 // Numbers below it have one digit.
@@ -133,8 +132,8 @@ impl Writer<'_> {
     {
         let list = powers();
         let mut rest = n;
-        for i in (0..width(n, &list)).rev() {
-            let l = leading(rest, list[i]);
+        for &power in list[..width(n, &list)].iter().rev() {
+            let l = leading(rest, power);
             self.put(b'0' + l.digit);
             rest = l.rest;
         }
@@ -173,12 +172,10 @@ impl Writer<'_> {
     pub fn signed(&mut self, high: u32, low: u32)
         ensures { self.new ≡ after (int high low) self.old }
     {
-        let n = joined(high, low);
-        if high < 2147483648 {
-            self.number(n);
-        } else {
+        let n = joined(high, low).cast_signed();
+        if n < 0 {
             self.put(b'-');
-            self.number(18446744073709551615 - n + 1);
         }
+        self.number(n.unsigned_abs());
     }
 }

@@ -44,7 +44,8 @@ got xs i (Some x) h = sym (slice_get_read xs (length xs) i x.now refl h.3.0 h.1)
 
 -- the same of a table of texts
 pub got_text :
-    (xs : List (Bor (List ℕ))) (ys : List (List ℕ)) (i : ℕ) (r : Option (Bor (Bor (List ℕ)))) (t : Option (Bor (List ℕ))) → map (λ x. x.now) xs ≡ ys → IsItemAt xs i r → t ≡ option_copied r → option_copied t ≡ slice_get ys i
+    (xs : List (Bor (List ℕ))) (ys : List (List ℕ)) (i : ℕ) (r : Option (Bor (Bor (List ℕ)))) (t : Option (Bor (List ℕ))) → map (λ x. x.now) xs ≡ ys → IsItemAt xs i r
+    → t ≡ option_copied r → option_copied t ≡ slice_get ys i
 got_text xs ys i r t e h q =
     ap (λ (o : Option (Bor (List ℕ))). option_copied o) (q ∙ got xs i r h) ∙ sym (slice_get-map (λ (x : Bor (List ℕ)). x.now) xs i)
     ∙ ap (λ (l : List (List ℕ)). slice_get l i) e

@@ -45,11 +45,10 @@ impl MemberKind {
     {
         match self {
             MemberKind::Bracket => OpCode::GetItem,
-            MemberKind::Dot => OpCode::GetAttr,
-            MemberKind::DoubleColon => OpCode::GetAttr,
-            MemberKind::BracketMeta => OpCode::GetMeta,
-            MemberKind::DotMeta => OpCode::GetMeta,
-            MemberKind::DoubleColonMeta => OpCode::GetMeta,
+            MemberKind::Dot | MemberKind::DoubleColon => OpCode::GetAttr,
+            MemberKind::BracketMeta | MemberKind::DotMeta | MemberKind::DoubleColonMeta => {
+                OpCode::GetMeta
+            }
         }
     }
 
@@ -58,11 +57,10 @@ impl MemberKind {
     {
         match self {
             MemberKind::Bracket => OpCode::SetItem,
-            MemberKind::Dot => OpCode::SetAttr,
-            MemberKind::DoubleColon => OpCode::SetAttr,
-            MemberKind::BracketMeta => OpCode::SetMeta,
-            MemberKind::DotMeta => OpCode::SetMeta,
-            MemberKind::DoubleColonMeta => OpCode::SetMeta,
+            MemberKind::Dot | MemberKind::DoubleColon => OpCode::SetAttr,
+            MemberKind::BracketMeta | MemberKind::DotMeta | MemberKind::DoubleColonMeta => {
+                OpCode::SetMeta
+            }
         }
     }
 }

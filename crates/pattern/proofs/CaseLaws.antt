@@ -4,7 +4,7 @@ use mathlib.Core.Bool.{Bool, true, false, cond}
 use mathlib.Core.List.{List, [], ◌∷◌, ◌++◌}
 use Prim.Native.Nat.{ℕ, zero, suc, ◌+◌, ◌-◌, ◌≤◌, ◌<◌}
 use native.Mathlib.Omega.{arith}
-use lib.ListN.{length, get_or, length-append}
+use lib.ListN.{length, get_or}
 use Rattle.tables.specs.Record.{Words, words, is_function}
 use Rattle.tables.specs.Forest.{Forest, none, tree, Nodes, bare, first, next, forest, children, own_tree}
 use Rattle.tables.proofs.ForestLaws.{grown as by-records}
@@ -42,9 +42,6 @@ module _ {e : Lent} {c : Walk} {r : ℕ} {from : List Step → List Step} {env :
   -- names given before keep their places
   pub kept_name : (i y : ℕ) → i < length env → (flow A ≡ Go → get_or env i 0 ≡ y) → flow B ≡ Go → get_or p.names i 0 ≡ y
   kept_name i y lt h g = ap (λ (ns : List ℕ). get_or ns i 0) p.longer ∙ env_kept env p.more i lt ∙ h (p.still g)
-
-  pub not_shorter : length env ≤ length p.names
-  not_shorter = let z : length p.names ≡ length env + length p.more = ap length p.longer ∙ length-append env p.more in omega arith
 
 module _ (e : Lent) (c : Walk) (r : ℕ) where
   abbrev R : List ℕ

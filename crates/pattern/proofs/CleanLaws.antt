@@ -1,45 +1,29 @@
 -- The clean-up labels of one pattern in the code. Assumes nothing.
-use mathlib.Core.Path.{◌≡◌, refl, sym, ap, ◌∙◌}
+use mathlib.Core.Path.{◌≡◌, refl, ap, ◌∙◌}
 use mathlib.Core.List.{List}
 use Prim.Native.Nat.{ℕ, suc, ◌+◌, ◌-◌, ◌≤◌, ◌<◌}
 use native.Mathlib.Omega.{arith}
-use borrow.Author.Tests.{lt-ltb, le-ltb}
 use Rattle.opcode.specs.Words.{pair_of}
 use Rattle.rules.specs.Marker.{Pop, Label, Do, mark}
 use Rattle.rules.specs.Run.{emit}
-use Rattle.context.specs.Words.{cap, more}
-use Rattle.context.specs.Sinks.{took_many, Takes, pushed}
+use Rattle.context.specs.Words.{cap}
+use Rattle.context.specs.Sinks.{pushed}
 use Rattle.context.specs.Rep.{Moves}
 use Rattle.context.specs.declared.Context.{Context}
-use Rattle.context.proofs.Basics.{on_true, on_false}
 use Rattle.context.proofs.RepLaws.{then_moves, removes}
 use Rattle.context.proofs.MarkLaws.{placed, said}
 use Rattle.plain.proofs.GoLaws.{cap_after}
 use Rattle.pattern.specs.declared.clean.CleanStack.{CleanStack}
 use Rattle.pattern.specs.Tests.{cleanup_run}
-use Rattle.pattern.specs.Promises.{Deepens, Cleans}
+use Rattle.pattern.specs.Promises.{Cleans}
 
 -- ---- a label more
-
-pub deepens_has : (w : Context) (s : CleanStack) (d : ℕ) → d < s.taken → Deepens w w s s d
-deepens_has w s d lt =
-    let e = lt-ltb d s.taken lt in
-    record { first = refl; taken = sym (on_true _ _ _ e); context = sym (ap (λ n. took_many n w) (on_true _ 0 1 e)) }
-
-pub deepens_more : (w : Context) {w' : Context} (s : CleanStack) (d : ℕ) {n l : ℕ} → s.taken ≤ d → Takes w w' 1 l → n ≡ more s.taken
-    → Deepens w w' s (record { first = s.first; taken = n }) d
-deepens_more w s d le k en =
-    let e = le-ltb d s.taken le in
-    record { first = refl; taken = en ∙ sym (on_false _ _ _ e); context = k.context ∙ sym (ap (λ n. took_many n w) (on_false _ 0 1 e)) }
 
 -- ---- the clean-up: the labels from the n-th on are placed, and what places the others places all
 
 pub record CleanTurn (s : CleanStack) (w₀ : Context) (n₀ : ℕ) (w : Context) (n : ℕ) : Type 0 where
   pub work : (recs : List ℕ) (r x : ℕ) → s.first.0 ≡ cap x → (w' : Context) → Moves recs w w' (λ c. cleanup_run r x (n - 1))
       → Moves recs w₀ w' (λ c. cleanup_run r x (n₀ - 1))
-
-pub clean_holds : (s : CleanStack) (w : Context) (n : ℕ) → CleanTurn s w n w n
-clean_holds s w n = record { work = λ recs r x e w' h. h }
 
 module _ {s : CleanStack} {w₀ w : Context} where
   -- one label and a Pop

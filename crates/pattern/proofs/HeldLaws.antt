@@ -154,10 +154,6 @@ module _ {e : Lent} {c : Walk} {r : ℕ} where
       → Holds e c r from' env A B m h x → Holds e c r from env A B m h x
   from_holds q p = record { past = from_goes q p.past; held = p.held }
 
-  -- the same state, and the same number of labels, by another name
-  pub to_goes : {from : List Step → List Step} {env : List ℕ} {A B B' : State} → B' ≡ B → Goes e c r from env A B → Goes e c r from env A B'
-  to_goes {from} {env} {A} q p = subst (λ (z : State). Goes e c r from env A z) (sym q) p
-
   pub to_holds : {from : List Step → List Step} {env : List ℕ} {A B B' : State} {m h h' x : ℕ} → B' ≡ B → h' ≡ h → Holds e c r from env A B m h x
       → Holds e c r from env A B' m h' x
   to_holds {from} {env} {A} {B' = B'} {m} {h} {h'} {x} q z p =

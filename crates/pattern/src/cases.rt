@@ -16,10 +16,10 @@ fn test(tree: &Tree, cx: &mut Context, pattern: usize, block_label: LabelId)
     ensures { TestsPattern tree.now.records.now tree.now.notes.now cx.old cx.new pattern block_label.0 }
 {
     let stack = clean_stack(cx);
-    cx.push_op(OpCode::Copy(1));
+    cx.push_code(OpCode::Copy(1));
     let taken = visit_pattern_depth(tree, cx, pattern, 0, stack);
-    cx.push_op(OpCode::Pop);
-    cx.push_op(OpCode::Jump(block_label));
+    cx.push_code(OpCode::Pop);
+    cx.push_code(OpCode::Jump(block_label));
     clean_up(cx, taken)
 }
 

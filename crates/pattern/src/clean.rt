@@ -51,7 +51,7 @@ pub fn clean_up(cx: &mut Context, stack: CleanStack)
 {
     for n in (1..stack.taken).rev() {
         cx.push_label(clean_stack_label(stack, n));
-        cx.push_op(OpCode::Pop);
+        cx.push_code(OpCode::Pop);
     }
     cx.push_label(clean_stack_label(stack, 0))
 }

@@ -10,7 +10,7 @@ use opcode::opcode::OpCode;
 use plain::item::{push_item, push_value};
 use plain::siblings::width;
 use tables::ast::{first, kind, next};
-use tables::kind;
+use tables::kind::Kind;
 
 #[cycle(patterns)]
 pub fn visit_pattern_depth(
@@ -27,9 +27,9 @@ pub fn visit_pattern_depth(
     }
     let next_pattern_label = clean_stack_label(stack, depth);
     match kind(tree.records, pattern) {
-        kind::TABLE_PATTERN => table(tree, cx, pattern, depth, stack),
-        kind::LIST_PATTERN => list(tree, cx, pattern, depth, stack),
-        kind::IDENT_PATTERN => {
+        Kind::TablePattern => table(tree, cx, pattern, depth, stack),
+        Kind::ListPattern => list(tree, cx, pattern, depth, stack),
+        Kind::IdentPattern => {
             ident(tree, cx, pattern, next_pattern_label);
             stack
         }
@@ -57,7 +57,7 @@ fn table(tree: &Tree, cx: &mut Context, pattern: usize, depth: u32, stack: Clean
         taken = visit_pattern_depth(tree, cx, value, inside, taken);
         key = next(tree.records, value);
     }
-    cx.push_op(OpCode::Pop);
+    cx.push_code(OpCode::Pop);
     taken
 }
 
@@ -79,6 +79,6 @@ fn list(tree: &Tree, cx: &mut Context, pattern: usize, depth: u32, stack: CleanS
         item = next(tree.records, item);
         i = i.saturating_add(1);
     }
-    cx.push_op(OpCode::Pop);
+    cx.push_code(OpCode::Pop);
     taken
 }

@@ -9,28 +9,25 @@ use context::tree::Tree;
 use opcode::index::LabelId;
 use opcode::opcode::OpCode;
 use pool::value::ConstValue;
-use tables::ast::detail;
-use tables::detail;
+use tables::ast::flag;
 
 // ValueType::Table
 const TABLE: u32 = 6;
-// A pattern with others has no test of its length.
-const WITH_OTHERS: u32 = detail::OTHERS;
 
 // PatternKind::Lit
 pub fn lit(tree: &Tree, cx: &mut Context, pattern: usize, next_pattern_label: LabelId)
     ensures { (q : ℕ) → WithLabel tree.now.records.now cx.old cx.new next_pattern_label.0 (λ r y. lit_run r y q (words tree.now.records.now pattern)) }
 {
     cx.push_lit(tree.records, pattern);
-    cx.push_op(OpCode::Eq);
-    cx.push_op(OpCode::PopJumpIfFalse(next_pattern_label))
+    cx.push_code(OpCode::Eq);
+    cx.push_code(OpCode::PopJumpIfFalse(next_pattern_label))
 }
 
 // PatternKind::Ident
 pub fn ident(tree: &Tree, cx: &mut Context, pattern: usize, next_pattern_label: LabelId)
     ensures { (recs : List ℕ) → WithLabel recs cx.old cx.new next_pattern_label.0 (λ r y. ident_run tree.now.notes.now r y pattern) }
 {
-    cx.push_op(OpCode::JumpPopIfNull(next_pattern_label));
+    cx.push_code(OpCode::JumpPopIfNull(next_pattern_label));
     cx.store(tree.notes, pattern)
 }
 
@@ -44,15 +41,16 @@ pub fn push_table_test(
 )
     ensures { (q : ℕ) → WithLabel tree.now.records.now cx.old cx.new clean_stack_label.0 (λ r y. table_run r y q (words tree.now.records.now pattern) n) }
 {
-    cx.push_op(OpCode::Copy(1));
-    cx.push_op(OpCode::TypeCheck(TABLE));
-    cx.push_op(OpCode::PopJumpIfFalse(clean_stack_label));
-    if detail(tree.records, pattern) == WITH_OTHERS {
+    cx.push_code(OpCode::Copy(1));
+    cx.push_code(OpCode::TypeCheck(TABLE));
+    cx.push_code(OpCode::PopJumpIfFalse(clean_stack_label));
+    // there may be others
+    if flag(tree.records, pattern) {
         return;
     }
-    cx.push_op(OpCode::Copy(1));
-    cx.push_op(OpCode::GetLen);
+    cx.push_code(OpCode::Copy(1));
+    cx.push_code(OpCode::GetLen);
     cx.push_load_const(tree.records, ConstValue::Int(n, 0));
-    cx.push_op(OpCode::Eq);
-    cx.push_op(OpCode::PopJumpIfFalse(clean_stack_label))
+    cx.push_code(OpCode::Eq);
+    cx.push_code(OpCode::PopJumpIfFalse(clean_stack_label))
 }

@@ -1,18 +1,20 @@
 -- Counts of siblings and the siblings themselves, link by link. Assumes nothing.
-use mathlib.Core.Path.{◌≡◌, refl, sym, ap, ap₂, ◌∙◌}
+use mathlib.Core.Path.{◌≡◌, refl, sym, ap, ◌∙◌}
 use mathlib.Core.Bool.{Bool, true, false, cond, ◌&&◌}
-use mathlib.Core.List.{List}
+use mathlib.Core.List.{List, [], ◌∷◌}
 use mathlib.Core.Logic.{inl, inr}
 use Prim.Native.Nat.{ℕ, zero, suc, ◌+◌, ◌-◌, ◌≤◌, ◌<◌}
 use native.Mathlib.Omega.{arith}
 use lib.Dec.{eqb}
+use lib.ListN.{length}
 use borrow.Author.Tests.{eq-eqb, ne_eqb, eqb-true, eqb-false}
 use Rattle.tables.specs.Record.{Words, words, word, size, is_kind}
-use Rattle.tables.specs.Forest.{Forest, Nodes, bare, node, first, next, forest, own_tree}
+use Rattle.tables.specs.Forest.{Forest, none, tree, Nodes, bare, node, first, next, forest, own_tree}
 use Rattle.tables.proofs.ForestLaws.{forest_absent, forest_record, next_onward, Onward, next_zero}
 use Rattle.rules.specs.Step.{width}
 use Rattle.rules.specs.Arms.{arguments, handlers, is_tail}
-use Rattle.context.specs.Does.{nth, child}
+use Rattle.context.specs.Does.{nth}
+use Rattle.plain.specs.Siblings.{numbers}
 use Rattle.context.proofs.Basics.{clash}
 use Rattle.context.proofs.PartLaws.{width_none, width_some}
 
@@ -33,6 +35,10 @@ tail_split : (w : Words) (k s : Nodes) → is_tail (node w k s) ≡ tail_kids w 
 unfolding tail_kids
 tail_split w bare s = refl
 tail_split w (node w' k s') s = refl
+
+count_numbers : (f : Forest) → length (numbers f) ≡ width (own_tree f)
+count_numbers none = refl
+count_numbers (tree r w k s) = ap suc (count_numbers s)
 
 module _ (recs : List ℕ) where
   abbrev pub row : ℕ → Nodes
@@ -68,35 +74,25 @@ module _ (recs : List ℕ) where
   pub width_falls : (c x : ℕ) → (c ≡ 0 → ⊥) → x ≡ next recs c → width (row c) ≡ suc (width (row x))
   width_falls c x ne e = width_some recs c ne ∙ ap (λ (z : ℕ). suc (width (row z))) (sym e)
 
-  -- the arguments
-  pub arguments_none : (c : ℕ) → c ≡ 0 → arguments (row c) ≡ 0
-  arguments_none c e = ap (λ (x : ℕ). arguments (row x)) e ∙ ap (λ (f : Forest). arguments (own_tree f)) (forest_absent recs)
+  -- the siblings' numbers
+  pub numbers_none : (c : ℕ) → c ≡ 0 → numbers (forest recs c) ≡ []
+  numbers_none c e = ap (λ (x : ℕ). numbers (forest recs x)) e ∙ ap numbers (forest_absent recs)
+
+  pub numbers_some : (c x : ℕ) → (c ≡ 0 → ⊥) → x ≡ next recs c → numbers (forest recs c) ≡ c ∷ numbers (forest recs x)
+  numbers_some zero x ne e = absurd (ne refl)
+  numbers_some (suc c) x ne e = ap numbers (forest_record recs c) ∙ ap (λ (z : ℕ). suc c ∷ numbers (forest recs z)) (sym e)
+
+  pub numbers_width : (c : ℕ) → length (numbers (forest recs c)) ≡ width (row c)
+  numbers_width c = count_numbers (forest recs c)
 
   arguments_some : (c : ℕ) → (c ≡ 0 → ⊥) → arguments (row c) ≡ cond (eqb (word recs c 0) 32) 0 (suc (arguments (row (next recs c))))
   arguments_some zero ne = absurd (ne refl)
   arguments_some (suc c) ne = ap (λ (f : Forest). arguments (own_tree f)) (forest_record recs c)
 
-  pub arguments_handler : (c k : ℕ) → (c ≡ 0 → ⊥) → k ≡ word recs c 0 → k ≡ 32 → arguments (row c) ≡ 0
-  arguments_handler c k ne e q =
-      arguments_some c ne ∙ ap (λ (b : Bool). cond b 0 (suc (arguments (row (next recs c))))) (eq-eqb (word recs c 0) 32 (sym e ∙ q))
-
-  pub arguments_other : (c x k : ℕ) → (c ≡ 0 → ⊥) → x ≡ next recs c → k ≡ word recs c 0 → (k ≡ 32 → ⊥) → arguments (row c) ≡ suc (arguments (row x))
-  arguments_other c x k ne q e d =
-      arguments_some c ne ∙ ap (λ (b : Bool). cond b 0 (suc (arguments (row (next recs c))))) (ne_eqb (word recs c 0) 32 (λ z. d (e ∙ z)))
-      ∙ ap (λ (z : ℕ). suc (arguments (row z))) (sym q)
-
   -- the n-th sibling
   pub nth_absent : (j c : ℕ) → c ≡ 0 → nth recs j c ≡ 0
   nth_absent zero c e = e
   nth_absent (suc j) c e = nth_absent j (next recs c) (ap (next recs) e ∙ sym (next_zero recs 0 refl))
-
-  pub nth_left : (n m c x : ℕ) → m ≡ n - 1 → 0 < n → x ≡ next recs c → nth recs m x ≡ nth recs n c
-  nth_left zero m c x e h q = absurd (omega arith)
-  nth_left (suc n) m c x e h q = let z : m ≡ n = omega arith in ap₂ (nth recs) z q
-
-  pub nth_end : (n c : ℕ) → n ≤ 0 → c ≡ nth recs n c
-  nth_end zero c h = refl
-  nth_end (suc n) c h = absurd (omega arith)
 
   pub nth_some : (j c : ℕ) → j < width (row c) → nth recs j c ≡ 0 → ⊥
   nth_some zero c h e = let z : width (row c) ≡ 0 = width_none recs c e in omega arith
@@ -141,19 +137,6 @@ module _ (recs : List ℕ) where
       let y : width (row x) ≡ suc (width (row (next recs x))) = width_some recs x ne in
       let u : width (row (suc c)) - 1 ≡ suc (width (row x) - 1) = omega arith in
       sym (ap (λ (j : ℕ). nth recs j (suc c)) u ∙ ap (nth recs (width (row x) - 1)) (sym e))
-
-  -- the first child
-  pub child_absent : (c : ℕ) → c ≡ 0 → 0 ≡ child recs c 0
-  child_absent zero e = refl
-  child_absent (suc c) e = absurd (omega arith)
-
-  pub child_function : (c k : ℕ) → k ≡ word recs c 0 → k ≡ 30 → 0 ≡ child recs c 0
-  child_function zero k e q = refl
-  child_function (suc c) k e q = sym (ap (λ (b : Bool). cond b 0 (first recs (suc c))) (eq-eqb (word recs (suc c) 0) 30 (sym e ∙ q)))
-
-  pub child_present : (c k x : ℕ) → (c ≡ 0 → ⊥) → k ≡ word recs c 0 → (k ≡ 30 → ⊥) → x ≡ first recs c → x ≡ child recs c 0
-  child_present zero k x ne e d q = absurd (ne refl)
-  child_present (suc c) k x ne e d q = q ∙ sym (ap (λ (b : Bool). cond b 0 (first recs (suc c))) (ne_eqb (word recs (suc c) 0) 30 (λ z. d (e ∙ z))))
 
   -- what a Return returns
   pub tail_none : (c : ℕ) → c ≡ 0 → false ≡ is_tail (row c)

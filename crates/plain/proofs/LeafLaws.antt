@@ -5,11 +5,11 @@ use mathlib.Core.List.{List, [], ◌∷◌}
 use Prim.Native.Nat.{ℕ, zero, suc, ◌+◌, ◌*◌, ◌≤◌, ◌<◌}
 use native.Mathlib.Omega.{arith}
 use lib.ListN.{length, get_or-eq_default}
-use lib.Dec.{eqb, ltb}
-use borrow.Author.Tests.{eq-eqb, ne_eqb, ltb-true, ltb-false}
+use lib.Dec.{ltb}
+use borrow.Author.Tests.{ne_eqb, ltb-true, ltb-false}
 use Rattle.opcode.specs.declared.index.FunctionId.{FunctionId}
 use Rattle.tables.specs.Record.{Words, words, word, size}
-use Rattle.tables.specs.Forest.{none, tree, first, next, forest, children, own_tree}
+use Rattle.tables.specs.Forest.{none, tree, first, forest, children, own_tree}
 use Rattle.pool.specs.Value.{Null, zeros, plain, lit, int, str, function, yield, effect_at, child as words-at}
 use Rattle.pool.specs.Consts.{const_of, constant, made, words as three}
 use Rattle.pool.specs.ConstValues.{words_of, lit_of}
@@ -23,7 +23,7 @@ use Rattle.context.specs.Words.{limit, cap}
 use Rattle.context.specs.Sinks.{loads, used as used_of}
 use Rattle.context.specs.Rep.{Walk, Rep, Lent, Scoped}
 use Rattle.context.specs.declared.Context.{Context}
-use Rattle.context.specs.Does.{nth, reach, access_noted, noted_look}
+use Rattle.context.specs.Does.{nth, child, reach, access_noted, noted_look}
 use Rattle.context.proofs.ConstLaws.{loaded}
 use Rattle.context.proofs.NameLaws.{accessed}
 use Rattle.context.proofs.VisitLaws.{spot_child, ident_number, number_spot}
@@ -144,9 +144,6 @@ module _ (recs : List ℕ) where
   pub field_present : (g : Words → ℕ) (c x : ℕ) → (c ≡ 0 → ⊥) → x ≡ g (words recs c) → x ≡ g (words-at (own_tree (forest recs c)) 0)
   field_present g c x ne e = e ∙ sym (ap g (words_some recs c ne))
 
-  -- an Item's alias, or its name
-  pub alias_yes : (d c x : ℕ) → d ≡ 1 → x ≡ next recs c → x ≡ nth recs (cond (eqb d 1) 1 0) c
-  alias_yes d c x e q = q ∙ sym (ap (λ (b : Bool). nth recs (cond b 1 0) c) (eq-eqb d 1 e))
-
-  pub alias_no : (d c : ℕ) → (d ≡ 1 → ⊥) → c ≡ nth recs (cond (eqb d 1) 1 0) c
-  alias_no d c ne = sym (ap (λ (b : Bool). nth recs (cond b 1 0) c) (ne_eqb d 1 ne))
+  pub child_first : (c : ℕ) → (c ≡ 0 → ⊥) → (word recs c 0 ≡ 30 → ⊥) → first recs c ≡ child recs c 0
+  child_first zero ne e = absurd (ne refl)
+  child_first (suc l) ne e = sym (ap (λ (b : Bool). cond b 0 (first recs (suc l))) (ne_eqb _ 30 e))

@@ -1,5 +1,6 @@
 pub mod GoLaws
 pub mod CountLaws
+pub mod SiblingLaws
 pub mod OperatorLaws
 pub mod LeafLaws
 pub mod RunLaws

@@ -52,9 +52,6 @@ pub record Copying (n : ℕ) (w₁ w : Context) (i : ℕ) : Type 0 where
   pub from : 1 ≤ i
   pub most : i - 1 ≤ n - 1
 
-pub copying_start : (n : ℕ) (w : Context) → Copying n w w 1
-copying_start n w = record { made = λ records r. record { moves = λ c o₀ A h. h }; from = omega arith; most = omega arith }
-
 pub copying_again : {n : ℕ} {w₁ w w' : Context} {i : ℕ} → Copying n w₁ w i → i < n → w' ≡ pushed (pair_of 1 1) w
     → Copying n w₁ w' (i + 1)
 copying_again {i = i} d lt k = record {
@@ -83,9 +80,6 @@ module _ (e : Lent) where
   pub record Registering (h₁ : ℕ) (w₁ w : Context) (h : ℕ) : Type 0 where
     pub work : (r : ℕ)
         → Rest R w₁ (λ c. registering e r (width (row R h₁)) h₁) w (λ c. registering e r (width (row R h)) h)
-
-  pub registering_start : (h : ℕ) (w : Context) → Registering h w w h
-  registering_start h w = record { work = λ r. rest_start (λ c A. refl) }
 
   pub registering_again : {h₁ : ℕ} {w₁ w w' : Context} {h x : ℕ} → Registering h₁ w₁ w h → (h ≡ 0 → ⊥) → x ≡ next R h
       → ((r : ℕ) → Moves R w w' (λ c. register e r h)) → Registering h₁ w₁ w' x

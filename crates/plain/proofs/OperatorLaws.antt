@@ -163,9 +163,6 @@ not_or o k = not_number but_short o 6 tt k
 pub not_short : (o : BinOp) → OneOf but_short (tag_of bin_type o) → false ≡ is_short o
 not_short o k = sym (ap₂ ◌||◌ (not_and o k) (not_or o k))
 
-pub not_or_jump : (o : BinOp) → OneOf but_or (tag_of bin_type o) → short_jump o ≡ JumpIfFalseOrPop
-not_or_jump o k = on_false _ _ _ (not_number but_or o 6 tt k)
-
 -- `and=` and `or=`: the Left's detail says a plain name, and the operator is one of the two
 module _ (o : BinOp) (k : Nodes) where
   pub short_plain : {b : Bool} → (child k 0).detail ≡ 0 → b ≡ is_short o → b ≡ short_assign o k
@@ -237,14 +234,6 @@ set_own member.DoubleColonMeta = refl
 member_not : (ks : List ℕ) (k : MemberKind) (n : ℕ) → T (not (has_key ks n)) → OneOf ks (tag_of member-type k) → member_number k ≡ n → ⊥
 member_not ks k n t h e = miss ks n t (subst (λ (y : ℕ). OneOf ks y) (member_tag k ∙ e) h)
 
-pub not_meta : (k : MemberKind) → OneOf (0 ∷ 1 ∷ 2 ∷ []) (tag_of member-type k) → false ≡ is_meta k
-not_meta member.Bracket h = refl
-not_meta member.Dot h = refl
-not_meta member.DoubleColon h = refl
-not_meta member.BracketMeta h = absurd (member_not (0 ∷ 1 ∷ 2 ∷ []) member.BracketMeta 3 tt h refl)
-not_meta member.DotMeta h = absurd (member_not (0 ∷ 1 ∷ 2 ∷ []) member.DotMeta 4 tt h refl)
-not_meta member.DoubleColonMeta h = absurd (member_not (0 ∷ 1 ∷ 2 ∷ []) member.DoubleColonMeta 5 tt h refl)
-
 pub not_method : (k : MemberKind) → OneOf (0 ∷ 2 ∷ 3 ∷ 5 ∷ []) (tag_of member-type k) → false ≡ eqb (member_number k) 1 || eqb (member_number k) 4
 not_method k h =
     sym (ap₂ ◌||◌ (ne_eqb (member_number k) 1 (member_not (0 ∷ 2 ∷ 3 ∷ 5 ∷ []) k 1 tt h)) (ne_eqb (member_number k) 4 (member_not (0 ∷ 2 ∷ 3 ∷ 5 ∷ []) k 4 tt h)))
@@ -296,9 +285,6 @@ left_meta {A} {k} d e ne x y = by (ltb d 4) refl
     by false q = let h : 4 ≤ d = ltb-false d 4 q in on_false _ _ _ q ∙ sym (on_true _ _ _ (is_meta_lem (d - 1) e ∙ lt-ltb 2 (d - 1) (omega arith)))
 
 -- ---- a callee that is a method
-
-pub method_not : (w : Words) (k : ℕ) → k ≡ w.kind → (k ≡ 12 → ⊥) → false ≡ is_method w
-method_not w k e d = sym (ap (λ (b : Bool). b && (eqb (w.detail % 8) 1 || eqb (w.detail % 8) 4)) (ne_eqb w.kind 12 (λ z. d (e ∙ z))))
 
 pub method_by : (w : Words) (n : ℕ) {k : MemberKind} {b : Bool} → n ≡ w.kind → n ≡ 12 → k ≡ member_of (w.detail % 8)
     → b ≡ eqb (member_number k) 1 || eqb (member_number k) 4 → b ≡ is_method w

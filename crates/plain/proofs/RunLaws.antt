@@ -38,10 +38,6 @@ abbrev pub taken : ℕ → State → List ℕ
 taken zero A = []
 taken (suc n) A = labels A ∷ taken n (bump A)
 
-pub taken_length : (n : ℕ) (A : State) → length (taken n A) ≡ n
-taken_length zero A = refl
-taken_length (suc n) A = ap suc (taken_length n (bump A))
-
 pub bumps_flow : (n : ℕ) (A : State) → flow (bumps n A) ≡ flow A
 bumps_flow zero A = refl
 bumps_flow (suc n) A = bump_flow (bumps n A) ∙ bumps_flow n A
@@ -60,9 +56,6 @@ taken_nth (suc n) (suc k) A g h =
     let y : get_or (taken n (bump A)) k 0 ≡ labels (bump A) + k = taken_nth n k (bump A) (bump_flow A ∙ g) (omega arith) in
     let z : labels (bump A) ≡ suc (labels A) = bump_labels A g in
     omega arith
-
-pub taken_at : (env : List ℕ) (n k : ℕ) (A : State) → flow A ≡ Go → k < n → get_or (env ++ taken n A) (length env + k) 0 ≡ labels A + k
-taken_at env n k A g h = env_new env (taken n A) k ∙ taken_nth n k A g h
 
 -- ---- the parts
 
@@ -143,10 +136,6 @@ module _ (e : Lent) (r : ℕ) where
       let y = registering_labels n (next e.records h) B g in
       let z : labels B ≡ suc (labels A) = register_labels h A (registering_flow (suc n) h A g) in
       y ∙ (let u : labels B + n ≡ labels A + suc n = omega arith in u)
-
-  pub registered_length : (n h : ℕ) (A : State) → length (registered e r n h A) ≡ n
-  registered_length zero h A = refl
-  registered_length (suc n) h A = ap suc (registered_length n (next e.records h) (register e r h A))
 
   registered_nth : (n h k : ℕ) (A : State) → flow (registering e r n h A) ≡ Go → k < n → get_or (registered e r n h A) k 0 ≡ labels A + k
   registered_nth zero h k A g lt = absurd (omega arith)

@@ -1,3 +1,4 @@
 pub mod Operators
 pub mod Runs
 pub mod Leaves
+pub mod Siblings

@@ -12,7 +12,8 @@ use context::tree::Tree;
 use opcode::member::MemberKind;
 use opcode::opcode::OpCode;
 use tables::ast::{detail, first, kind};
-use tables::{detail, kind};
+use tables::detail;
+use tables::kind::Kind;
 
 // n times the value that is there.
 pub fn copies(cx: &mut Context, n: u32)
@@ -20,7 +21,7 @@ pub fn copies(cx: &mut Context, n: u32)
         cx.new (λ c. repeated (mark r (Do Copy 1)) (n - 1)) }
 {
     for _ in 1..n {
-        cx.push_op(OpCode::Copy(1));
+        cx.push_code(OpCode::Copy(1));
     }
 }
 
@@ -30,11 +31,11 @@ fn set_member(cx: &mut Context, property: MemberKind)
         cx.new (λ c. set_run r property) }
 {
     if is_meta(property) {
-        cx.push_op(OpCode::Swap(2));
+        cx.push_code(OpCode::Swap(2));
         return push_set(cx, property);
     }
-    cx.push_op(OpCode::Swap(3));
-    cx.push_op(OpCode::Swap(2));
+    cx.push_code(OpCode::Swap(3));
+    cx.push_code(OpCode::Swap(2));
     push_set(cx, property)
 }
 
@@ -45,7 +46,7 @@ pub fn after(tree: &Tree, cx: &mut Context, left: usize)
     if left == 0 {
         return;
     }
-    if kind(tree.records, left) != kind::LEFT {
+    if kind(tree.records, left) != Kind::Left {
         return;
     }
     let ident = first(tree.records, left);

@@ -9,32 +9,18 @@ ghost use Rattle.context.specs.Does.{child as child_of};
 ghost use Rattle.plain.specs.Runs.{argument_count};
 
 use crate::member::is_method;
-use crate::siblings::{nth, width};
+use crate::siblings::{Siblings, nth, width};
 use context::word::capped;
 use tables::ast::{first, kind, next, q};
-use tables::kind;
-
-// One less, and 0 for 0.
-pub fn less(n: usize) -> usize
-    ensures { result ≡ n - 1 }
-{
-    if n == 0 { 0 } else { n - 1 }
-}
+use tables::kind::Kind;
 
 // arguments.len(), a trailing lambda with them: the siblings from the record c on that stand before the first Handler.
 pub fn arguments_len(recs: &[u32], c: usize) -> usize
     ensures { result ≡ arguments_of (own_tree (forest recs.now c)) }
 {
-    let mut n: usize = 0;
-    let mut at = c;
-    while at != 0 {
-        if kind(recs, at) == kind::HANDLER {
-            return n;
-        }
-        n += 1;
-        at = next(recs, at);
-    }
-    n
+    Siblings::new(recs, c)
+        .take_while(|&at| kind(recs, at) != Kind::Handler)
+        .count()
 }
 
 // What a Call with n arguments counts: one more where the callee hands its table on.
@@ -58,7 +44,7 @@ pub fn is_tail(recs: &[u32], argument: usize) -> bool
     if argument == 0 {
         return false;
     }
-    if kind(recs, argument) != kind::CALL {
+    if kind(recs, argument) != Kind::Call {
         return false;
     }
     let callee = first(recs, argument);
@@ -74,7 +60,7 @@ pub fn first_child(recs: &[u32], c: usize) -> usize
     if c == 0 {
         return 0;
     }
-    if kind(recs, c) == kind::FUNCTION {
+    if kind(recs, c) == Kind::Function {
         return 0;
     }
     first(recs, c)

@@ -5,12 +5,12 @@ ghost use Rattle.rules.specs.Arms.{item_steps};
 ghost use Rattle.context.specs.Does.{nth as nth_of, Arm};
 ghost use Rattle.plain.specs.Runs.{simple_store};
 
-use crate::children::{less, name_of};
+use crate::children::name_of;
 use crate::siblings::nth;
 use context::Context;
 use context::tree::Tree;
-use tables::ast::{detail, first, next, p};
-use tables::detail;
+use tables::ast::{first, flag, import_kind, next, p};
+use tables::kind::ImportKind;
 use tables::refusal::RunRule;
 
 // ImportKind::Simple: the last Ident of the path is stored to, or the alias behind it; an empty path has no last one.
@@ -22,8 +22,8 @@ pub fn simple(tree: &Tree, cx: &mut Context, r: usize)
     if n == 0 {
         return cx.refuse(RunRule::Path, r);
     }
-    if detail(tree.records, r) == detail::SIMPLE {
-        return cx.store(tree.notes, nth(tree.records, path, less(n)));
+    if import_kind(tree.records, r) == ImportKind::Simple {
+        return cx.store(tree.notes, nth(tree.records, path, n.saturating_sub(1)));
     }
     cx.store(tree.notes, nth(tree.records, path, n))
 }
@@ -32,7 +32,7 @@ pub fn simple(tree: &Tree, cx: &mut Context, r: usize)
 fn alias(recs: &[u32], item: usize, name: usize) -> usize
     ensures { result ≡ nth_of recs.now (cond (eqb (word recs.now item 1) 1) 1 0) name }
 {
-    if detail(recs, item) == detail::RENAMED {
+    if flag(recs, item) {
         return next(recs, name);
     }
     name

@@ -13,9 +13,9 @@ pub fn push_item(tree: &Tree, cx: &mut Context, i: u32)
     ensures { GetsItem tree.now.records.now cx.old
         cx.new (int i) }
 {
-    cx.push_op(OpCode::Copy(1));
+    cx.push_code(OpCode::Copy(1));
     cx.push_load_const(tree.records, ConstValue::Int(i, 0));
-    cx.push_op(OpCode::GetItem)
+    cx.push_code(OpCode::GetItem)
 }
 
 // The value of a key, a Lit.
@@ -24,7 +24,7 @@ pub fn push_value(tree: &Tree, cx: &mut Context, key: usize)
         cx.new
         (lit (word tree.now.records.now key 1) (word tree.now.records.now key 2) (word tree.now.records.now key 3)) }
 {
-    cx.push_op(OpCode::Copy(1));
+    cx.push_code(OpCode::Copy(1));
     cx.push_lit(tree.records, key);
-    cx.push_op(OpCode::GetItem)
+    cx.push_code(OpCode::GetItem)
 }

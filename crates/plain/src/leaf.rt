@@ -16,7 +16,8 @@ use opcode::index::LabelId;
 use opcode::opcode::OpCode;
 use pool::notes::earlier;
 use pool::value::ConstValue;
-use rules::{StackCode, error};
+use rules::StackCode;
+use rules::error::ErrorKind;
 use tables::ast::{first, next};
 
 // ExprKind::Effect; the number of a record that has a kind is a word.
@@ -34,9 +35,9 @@ pub fn break_loop(tree: &Tree, cx: &mut Context, r: usize)
     ensures { Leaf tree.now.records.now cx.old cx.new r break_steps }
 {
     let Some(label) = cx.break_label() else {
-        return cx.cut(tree.records, error::BREAK_OUTSIDE_LOOP, r);
+        return cx.cut(tree.records, ErrorKind::BreakOutsideLoop, r);
     };
-    cx.push_op(OpCode::Break(label));
+    cx.push_code(OpCode::Break(label));
     cx.push_null(tree.records)
 }
 
@@ -45,9 +46,9 @@ pub fn continue_loop(tree: &Tree, cx: &mut Context, r: usize)
     ensures { Leaf tree.now.records.now cx.old cx.new r continue_steps }
 {
     let Some(label) = cx.continue_label() else {
-        return cx.cut(tree.records, error::CONTINUE_OUTSIDE_LOOP, r);
+        return cx.cut(tree.records, ErrorKind::ContinueOutsideLoop, r);
     };
-    cx.push_op(OpCode::Continue(label));
+    cx.push_code(OpCode::Continue(label));
     cx.push_null(tree.records)
 }
 
@@ -56,14 +57,10 @@ pub fn push_return_label(cx: &mut Context)
     ensures { (recs : List ℕ) (r : ℕ) → Moves recs cx.old
         cx.new (λ c. return_run c.code r) }
 {
-    let layout = cx.stack;
-    match layout {
-        StackCode::Code1 => {
-            let return_label = cx.get_label();
-            cx.push_op(OpCode::Jump(return_label));
-            cx.push_label(return_label)
-        }
-        StackCode::Code2 => {}
+    if cx.stack == StackCode::Code1 {
+        let return_label = cx.get_label();
+        cx.push_code(OpCode::Jump(return_label));
+        cx.push_label(return_label)
     }
 }
 
@@ -87,7 +84,7 @@ fn register(tree: &Tree, cx: &mut Context, handler: usize)
     let handler_label = cx.get_label();
     let effect = first_child(tree.records, handler);
     cx.load(tree.notes, effect);
-    cx.push_op(OpCode::RegisterHandler(handler_label))
+    cx.push_code(OpCode::RegisterHandler(handler_label))
 }
 
 // So are the Handlers from this one on: answers the first one's label, and the others' follow it.

@@ -17,12 +17,12 @@ pub fn iterate(tree: &Tree, cx: &mut Context, continue_label: LabelId, body_labe
     ensures { WithLabels tree.now.records.now cx.old
         cx.new continue_label.0 body_label.0 iterate_run }
 {
-    cx.push_op(OpCode::Iter);
+    cx.push_code(OpCode::Iter);
     cx.push_label(continue_label);
     cx.push_null(tree.records);
     cx.push_load_const(tree.records, ConstValue::Yield);
-    cx.push_op(OpCode::RegisterHandler(body_label));
-    cx.push_op(OpCode::Call(1))
+    cx.push_code(OpCode::RegisterHandler(body_label));
+    cx.push_code(OpCode::Call(1))
 }
 
 // The first n items are stored to the Idents from this one on.
@@ -49,7 +49,7 @@ pub fn targets(tree: &Tree, cx: &mut Context, left: usize, n: u32)
         return cx.store(tree.notes, left);
     }
     items(tree, cx, left, n);
-    cx.push_op(OpCode::Pop)
+    cx.push_code(OpCode::Pop)
 }
 
 // The end of a For.
@@ -57,10 +57,10 @@ pub fn end_for(tree: &Tree, cx: &mut Context, continue_label: LabelId, break_lab
     ensures { WithLabels tree.now.records.now cx.old
         cx.new continue_label.0 break_label.0 end_for_run }
 {
-    cx.push_op(OpCode::Pop);
-    cx.push_op(OpCode::JumpBackEdge(continue_label));
+    cx.push_code(OpCode::Pop);
+    cx.push_code(OpCode::JumpBackEdge(continue_label));
     cx.push_label(break_label);
-    cx.push_op(OpCode::Pop);
+    cx.push_code(OpCode::Pop);
     cx.push_null(tree.records);
     cx.end_loop()
 }

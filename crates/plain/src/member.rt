@@ -15,7 +15,8 @@ use opcode::member::MemberKind;
 use opcode::opcode::OpCode;
 use rules::StackCode;
 use tables::ast::{detail, kind};
-use tables::{detail, kind};
+use tables::detail;
+use tables::kind::Kind;
 
 #[tactic(auto, using(crate::proofs::OperatorLaws::found_member_lem))]
 fn member(n: u32) -> MemberKind
@@ -46,38 +47,30 @@ pub fn left_property(recs: &[u32], left: usize) -> MemberKind
 pub fn is_method(recs: &[u32], callee: usize) -> bool
     ensures { result ≡ is_method (words recs.now callee) }
 {
-    if kind(recs, callee) != kind::MEMBER {
+    if kind(recs, callee) != Kind::Member {
         return false;
     }
-    let property = property_of(recs, callee);
-    match property {
-        MemberKind::Dot => true,
-        MemberKind::DotMeta => true,
-        _ => false,
-    }
+    matches!(
+        property_of(recs, callee),
+        MemberKind::Dot | MemberKind::DotMeta
+    )
 }
 
 // Whether nothing stands behind the dot, the colons or in the brackets.
 pub fn is_meta(property: MemberKind) -> bool
     ensures { result ≡ is_meta property }
 {
-    match property {
-        MemberKind::BracketMeta => true,
-        MemberKind::DotMeta => true,
-        MemberKind::DoubleColonMeta => true,
-        _ => false,
-    }
+    matches!(
+        property,
+        MemberKind::BracketMeta | MemberKind::DotMeta | MemberKind::DoubleColonMeta
+    )
 }
 
 // Whether the Member r takes no label: in code 2, where it is not safe.
 pub fn is_unlabelled(tree: &Tree, cx: &Context, r: usize) -> bool
     ensures { result ≡ unlabelled (cx.now.stack) (word tree.now.records.now r 1) }
 {
-    let code = cx.stack;
-    match code {
-        StackCode::Code1 => false,
-        StackCode::Code2 => detail(tree.records, r) < detail::SAFE,
-    }
+    cx.stack == StackCode::Code2 && detail(tree.records, r) < detail::SAFE
 }
 
 // if safe.is_some() { push_code(JumpPopIfNull(safe_label)) }
@@ -87,19 +80,19 @@ pub fn push_safe_jump(tree: &Tree, cx: &mut Context, r: usize, safe_label: Label
     if detail(tree.records, r) < detail::SAFE {
         return;
     }
-    cx.push_op(OpCode::JumpPopIfNull(safe_label))
+    cx.push_code(OpCode::JumpPopIfNull(safe_label))
 }
 
 // push_code(property.get_opcode())
 pub fn push_get(cx: &mut Context, property: MemberKind)
     ensures { cx.new ≡ pushed (op_words (get_of property)) cx.old }
 {
-    cx.push_op(property.get_opcode())
+    cx.push_code(property.get_opcode())
 }
 
 // push_code(property.set_opcode())
 pub fn push_set(cx: &mut Context, property: MemberKind)
     ensures { cx.new ≡ pushed (op_words (set_of property)) cx.old }
 {
-    cx.push_op(property.set_opcode())
+    cx.push_code(property.set_opcode())
 }

@@ -36,7 +36,7 @@ pub fn unary_operator(recs: &[u32], r: usize) -> UnOp
 pub fn push_unary(cx: &mut Context, operator: UnOp)
     ensures { cx.new ≡ pushed (op_words (from_un_op operator)) cx.old }
 {
-    cx.push_op(operator.into())
+    cx.push_code(OpCode::from(operator))
 }
 
 // push_code(OpCode::from(operator)): And, Or and Is have no opcode.
@@ -46,17 +46,13 @@ pub fn push_binary(cx: &mut Context, operator: BinOp, r: usize)
     let Ok(op) = OpCode::try_from(operator) else {
         return cx.refuse(RunRule::Operator, r);
     };
-    cx.push_op(op)
+    cx.push_code(op)
 }
 
 fn is_short(operator: BinOp) -> bool
     ensures { result ≡ is_short operator }
 {
-    match operator {
-        BinOp::And => true,
-        BinOp::Or => true,
-        _ => false,
-    }
+    matches!(operator, BinOp::And | BinOp::Or)
 }
 
 // Whether an AssignOp is `and=` or `or=` on a plain name.
@@ -77,8 +73,8 @@ pub fn push_short_jump(cx: &mut Context, operator: BinOp, label: LabelId)
     ensures { cx.new ≡ pushed (pair_of (forward_number (short_jump operator)) label.0) cx.old }
 {
     match operator {
-        BinOp::Or => cx.push_op(OpCode::JumpIfTrueOrPop(label)),
-        _ => cx.push_op(OpCode::JumpIfFalseOrPop(label)),
+        BinOp::Or => cx.push_code(OpCode::JumpIfTrueOrPop(label)),
+        _ => cx.push_code(OpCode::JumpIfFalseOrPop(label)),
     }
 }
 
@@ -87,7 +83,7 @@ pub fn push_calling(cx: &mut Context, tail: bool, n: u32)
     ensures { cx.new ≡ pushed (pair_of (code_number (call_of tail)) n) cx.old }
 {
     if tail {
-        return cx.push_op(OpCode::ReturnCall(n));
+        return cx.push_code(OpCode::ReturnCall(n));
     }
-    cx.push_op(OpCode::Call(n))
+    cx.push_code(OpCode::Call(n))
 }

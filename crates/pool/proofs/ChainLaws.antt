@@ -1,4 +1,5 @@
 -- Chains: one item more, and going through an owner's chain. Assumes nothing.
+use Rattle.std.proofs.lemmas.Bool.{cond-true, cond-false, and_from, and_right, and_parts}
 use mathlib.Core.Path.{◌≡◌, refl, sym, ap, ap₂, subst, ◌∙◌}
 use mathlib.Core.Bool.{Bool, true, false, cond, ◌&&◌}
 use Prim.Native.Nat.{ℕ, zero, suc, ◌%◌, ◌≤◌, ◌<◌}
@@ -11,7 +12,6 @@ use borrow.Author.Tests.{lt-ltb, eq-eqb, ne_eqb, eqb-true, ltb-true}
 use Rattle.pool.specs.Chain.{OWNERS, no_chains, chained, below, first_of, next_of, last}
 use Rattle.pool.specs.declared.chain.Chain.{Chain}
 use Rattle.pool.specs.ResolveSteps.{of_owner, Chains}
-use Rattle.pool.proofs.Basics.{on_true, on_false}
 
 -- the last number below n that passes a test
 last_same : (a b : ℕ → Bool) (n : ℕ) → ((i : ℕ) → i < n → a i ≡ b i) → last a n ≡ last b n
@@ -22,11 +22,11 @@ last_same a b (suc n) h = ap₂ (λ (x : Bool) (y : ℕ). cond x n y) (h n (omeg
 module _ (b : ℕ → Bool) where
   last_on : (n : ℕ) → b n ≡ true → last b (suc n) ≡ n
   unfolding last
-  last_on n e = on_true _ _ _ e
+  last_on n e = cond-true _ _ _ e
 
   last_off : (n : ℕ) → b n ≡ false → last b (suc n) ≡ last b n
   unfolding last
-  last_off n e = on_false _ _ _ e
+  last_off n e = cond-false _ _ _ e
 
   pub last_less : (n : ℕ) → 0 < last b n → last b n < n
   unfolding last
@@ -55,21 +55,6 @@ module _ (b : ℕ → Bool) where
       go true q d ih = omega arith
       go false q (yes z) ih = absurd (let y : ◌≡◌ {A = ℕ} 0 1 = cc in omega arith)
       go false q (no z) ih = ih (omega arith)
-
-both : (a b : Bool) → a ≡ true → b ≡ true → a && b ≡ true
-both a b e q = rw (e, q)
-
-other : (a b : Bool) → b ≡ false → a && b ≡ false
-other true b e = e
-other false b e = refl
-
-second : (a b : Bool) → a && b ≡ true → b ≡ true
-second true b e = e
-second false b e = absurd (let z : ◌≡◌ {A = ℕ} 0 1 = cc in omega arith)
-
-pub first : (a b : Bool) → a && b ≡ true → a ≡ true
-first true b e = refl
-first false b e = e
 
 module _ {room : ℕ} (item : ℕ → Bool) (owner : ℕ → ℕ) where
   pub chain_start : (c : Chain room) → c ≡ no_chains room → Chains item owner 0 c
@@ -115,10 +100,10 @@ module _ {room : ℕ} (item : ℕ → Bool) (owner : ℕ → ℕ) where
         go (yes z) =
             ap (λ (x : ℕ). get_or (set c.heads k n) x 0) z
             ∙ (get_or-set_same c.heads k n 0 (omega (arith, h.owners))
-            ∙ sym (last_on (of_owner item owner o) n (both (item n) (eqb k o) is (eq-eqb k o (sym z)))))
+            ∙ sym (last_on (of_owner item owner o) n (and_from (item n) (eqb k o) is (eq-eqb k o (sym z)))))
         go (no z) =
             get_or-set_other c.heads k o n 0 z
-            ∙ (h.heads o q ∙ sym (last_off (of_owner item owner o) n (other (item n) (eqb k o) (ne_eqb k o (λ e. z (sym e))))))
+            ∙ (h.heads o q ∙ sym (last_off (of_owner item owner o) n (and_right (item n) (eqb k o) (ne_eqb k o (λ e. z (sym e))))))
 
     next_more : (i : ℕ) → i < suc n → item i ≡ true → get_or (set c.nexts n old) i 0 ≡ last (of_owner item owner (owner i % OWNERS)) i
     next_more i q r = go (ℕ_discrete i n)
@@ -130,7 +115,7 @@ module _ {room : ℕ} (item : ℕ → Bool) (owner : ℕ → ℕ) where
     pub chain_more : Chains item owner (suc n) (chained c (owner n) n)
     unfolding chained
     chain_more =
-        subst (Chains item owner (suc n)) (sym (on_true _ _ _ (lt-ltb _ _ few)))
+        subst (Chains item owner (suc n)) (sym (cond-true _ _ _ (lt-ltb _ _ few)))
         (record {
           owners = length-set c.heads k n ∙ h.owners;
           items = length-set c.nexts n old ∙ h.items;
@@ -164,9 +149,9 @@ module _ {room : ℕ} (item : ℕ → Bool) (owner : ℕ → ℕ) where
     next_is : (x : ℕ) → 0 < x → Halt x → next_of c x ≡ last own x
     unfolding next_of
     next_is x p s =
-        let z : owner x % OWNERS ≡ at % OWNERS = eqb-true _ _ (second (item x) _ (s p).1) in
-        let e : get_or c.nexts x 0 ≡ last own x = h.nexts x (s p).0 (first (item x) _ (s p).1) ∙ ap (λ (o : ℕ). last (of_owner item owner o) x) z in
-        on_true _ _ _ (lt-ltb x room (omega (arith, (s p).0))) ∙ (ap (λ (l : ℕ). below l x) e ∙ on_true _ _ _ (lt-ltb (last own x) x (go (ℕ_discrete (last own x) 0))))
+        let z : owner x % OWNERS ≡ at % OWNERS = eqb-true _ _ (and_parts (item x) _ (s p).1).1 in
+        let e : get_or c.nexts x 0 ≡ last own x = h.nexts x (s p).0 (and_parts (item x) _ (s p).1).0 ∙ ap (λ (o : ℕ). last (of_owner item owner o) x) z in
+        cond-true _ _ _ (lt-ltb x room (omega (arith, (s p).0))) ∙ (ap (λ (l : ℕ). below l x) e ∙ cond-true _ _ _ (lt-ltb (last own x) x (go (ℕ_discrete (last own x) 0))))
       where
         go : Dec (last own x ≡ 0) → last own x < x
         go (yes e) = omega arith

@@ -8,42 +8,31 @@ use native.Mathlib.Decide.{ℕ_discrete}
 use lib.ListN.{length, get_or, length-append}
 use lib.Dec.{eqb}
 use borrow.Author.Tests.{eq-eqb, eqb-true}
-use Rattle.std.proofs.lemmas.Bool.{true≢false}
+use Rattle.std.proofs.lemmas.Bool.{true≢false, or_parts, and_parts}
 use Rattle.pool.specs.Value.{Value, plain, effect, Null, Const, same, same_numbers, same_bool, find, seen, intern, start, found}
 use Rattle.pool.specs.Consts.{made, added, most, interned}
 use Rattle.pool.specs.declared.consts.Added.{Added}
 use Rattle.std.specs.Prelude.{Option, Some, None, unwrap_or, is_some}
 
-or_false : (a b : Bool) → a || b ≡ false → (a ≡ false) × (b ≡ false)
-or_false true b e = absurd (true≢false e)
-or_false false b e = (refl, e)
-
-and_both : (a b : Bool) → a && b ≡ true → (a ≡ true) × (b ≡ true)
-and_both true b e = (refl, e)
-and_both false b e = absurd (true≢false (sym e))
-
 -- ---- `same` is equality
-
-eqb_self : (n : ℕ) → eqb n n ≡ true
-eqb_self n = eq-eqb n n refl
 
 list_self : (xs : List ℕ) → same_numbers xs xs ≡ true
 list_self [] = refl
-list_self (x ∷ xs) = ap₂ ◌&&◌ (eqb_self x) (list_self xs)
+list_self (x ∷ xs) = ap₂ ◌&&◌ (eq-eqb x x refl) (list_self xs)
 
 bool_self : (b : Bool) → same_bool b b ≡ true
 bool_self true = refl
 bool_self false = refl
 
 pub same_self : (v : Value) → same v v ≡ true
-same_self (plain k p q) = ap₂ ◌&&◌ (eqb_self k) (ap₂ ◌&&◌ (eqb_self p) (eqb_self q))
-same_self (effect n ps b) = ap₂ ◌&&◌ (eqb_self n) (ap₂ ◌&&◌ (list_self ps) (bool_self b))
+same_self (plain k p q) = ap₂ ◌&&◌ (eq-eqb k k refl) (ap₂ ◌&&◌ (eq-eqb p p refl) (eq-eqb q q refl))
+same_self (effect n ps b) = ap₂ ◌&&◌ (eq-eqb n n refl) (ap₂ ◌&&◌ (list_self ps) (bool_self b))
 
 list_eq : (xs ys : List ℕ) → same_numbers xs ys ≡ true → xs ≡ ys
 list_eq [] [] e = refl
 list_eq [] (y ∷ ys) e = absurd (true≢false (sym e))
 list_eq (x ∷ xs) [] e = absurd (true≢false (sym e))
-list_eq (x ∷ xs) (y ∷ ys) e = let z = and_both (eqb x y) (same_numbers xs ys) e in ap₂ ◌∷◌ (eqb-true x y z.0) (list_eq xs ys z.1)
+list_eq (x ∷ xs) (y ∷ ys) e = let z = and_parts (eqb x y) (same_numbers xs ys) e in ap₂ ◌∷◌ (eqb-true x y z.0) (list_eq xs ys z.1)
 
 bool_eq : (a b : Bool) → same_bool a b ≡ true → a ≡ b
 bool_eq true true e = refl
@@ -53,14 +42,14 @@ bool_eq false false e = refl
 
 pub same_eq : (v w : Value) → same v w ≡ true → v ≡ w
 same_eq (plain k p q) (plain k' p' q') e =
-    let z = and_both (eqb k k') _ e in
-    let y = and_both (eqb p p') (eqb q q') z.1 in
+    let z = and_parts (eqb k k') _ e in
+    let y = and_parts (eqb p p') (eqb q q') z.1 in
     ap₂ (λ a b. plain a b q) (eqb-true k k' z.0) (eqb-true p p' y.0) ∙ ap (plain k' p') (eqb-true q q' y.1)
 same_eq (plain k p q) (effect n ps b) e = absurd (true≢false (sym e))
 same_eq (effect n ps b) (plain k p q) e = absurd (true≢false (sym e))
 same_eq (effect n ps b) (effect n' ps' b') e =
-    let z = and_both (eqb n n') _ e in
-    let y = and_both (same_numbers ps ps') (same_bool b b') z.1 in
+    let z = and_parts (eqb n n') _ e in
+    let y = and_parts (same_numbers ps ps') (same_bool b b') z.1 in
     ap₂ (λ x ys. effect x ys b) (eqb-true n n' z.0) (list_eq ps ps' y.0) ∙ ap (effect n' ps') (bool_eq b b' y.1)
 
 -- ---- the search
@@ -68,7 +57,7 @@ same_eq (effect n ps b) (effect n' ps' b') e =
 pub find_unseen : (cs : List Const) (v : Value) → seen cs v ≡ false → find cs v ≡ length cs
 unfolding find seen
 find_unseen [] v e = refl
-find_unseen (c ∷ cs) v e = let z = or_false (same c.value v) (seen cs v) e in rw z.0 (ap suc (find_unseen cs v z.1))
+find_unseen (c ∷ cs) v e = let z = or_parts (same c.value v) (seen cs v) e in rw z.0 (ap suc (find_unseen cs v z.1))
 
 pub find_seen : (cs : List Const) (v : Value) → seen cs v ≡ true → find cs v < length cs
 unfolding find seen
@@ -85,17 +74,6 @@ seen_inside cs v h = go (seen cs v) refl
     go : (b : Bool) → seen cs v ≡ b → b ≡ true
     go true e = refl
     go false e = absurd (omega (arith, find_unseen cs v e))
-
--- what is found is the value itself
-pub find_value : (cs : List Const) (d : Const) (v : Value) → seen cs v ≡ true → (get_or cs (find cs v) d).value ≡ v
-unfolding find seen
-find_value [] d v e = absurd (true≢false (sym e))
-find_value (c ∷ cs) d v e = go (same c.value v) refl e (λ q. find_value cs d v q)
-  where
-    go : (b : Bool) → same c.value v ≡ b → b || seen cs v ≡ true → (seen cs v ≡ true → (get_or cs (find cs v) d).value ≡ v)
-        → (get_or (c ∷ cs) (cond b 0 (suc (find cs v))) d).value ≡ v
-    go true q e ih = same_eq c.value v q
-    go false q e ih = ih e
 
 -- ---- one value more
 
@@ -136,7 +114,7 @@ seen_append (c ∷ cs) ds v h = go (same c.value v) h (λ h. seen_append cs ds v
 find_last : (cs : List Const) (c : Const) → seen cs c.value ≡ false → find (cs ++ (c ∷ [])) c.value ≡ length cs
 unfolding find seen
 find_last [] c e = ap (λ b. cond b 0 1) (same_self c.value)
-find_last (d ∷ cs) c e = let z = or_false (same d.value c.value) (seen cs c.value) e in rw z.0 (ap suc (find_last cs c z.1))
+find_last (d ∷ cs) c e = let z = or_parts (same d.value c.value) (seen cs c.value) e in rw z.0 (ap suc (find_last cs c z.1))
 
 -- the index in the table before is the index in the table after
 pub find_intern : (cs : List Const) (c : Const) → find (intern cs c) c.value ≡ find cs c.value
@@ -216,7 +194,7 @@ different_append : (cs : List Const) (c : Const) → Different cs → seen cs c.
 unfolding seen
 different_append [] c d e = (tt, tt)
 different_append (b ∷ cs) c (n, d) e =
-    let z = or_false (same b.value c.value) (seen cs c.value) e in (new_append b.value c cs n z.0, different_append cs c d z.1)
+    let z = or_parts (same b.value c.value) (seen cs c.value) e in (new_append b.value c cs n z.0, different_append cs c d z.1)
 
 pub different_start : Different start
 different_start = (tt, tt)

@@ -1,4 +1,5 @@
 -- Effects through their records: what the links lead to, in the terms of the tree. Assumes nothing.
+use Rattle.std.proofs.Math.Bool.{and-false, and-true}
 use mathlib.Core.Path.{◌≡◌, refl, sym, ap, ap₂, subst, ◌∙◌}
 use mathlib.Core.Bool.{beq, Bool, true, false, cond, ◌&&◌}
 use mathlib.Core.List.{List, [], ◌∷◌}
@@ -12,14 +13,6 @@ use Rattle.tables.specs.Forest.{bare, forest, own_tree, children, first, next}
 use Rattle.tables.proofs.ForestLaws.{forest_absent, forest_record, next_zero, next_onward, Onward}
 use Rattle.pool.specs.Value.{zeros, child, below, ident_names, same, same_numbers, same_bool, effect_at}
 use Rattle.pool.specs.Consts.{name_at, names_from, names_below, is_variadic}
-
-and_false : (b : Bool) → b && false ≡ false
-and_false true = refl
-and_false false = refl
-
-and_true : (b : Bool) → b && true ≡ b
-and_true true = refl
-and_true false = refl
 
 same_beq : (a b : Bool) → same_bool a b ≡ beq a b
 same_beq true true = refl
@@ -157,8 +150,8 @@ module _ (recs : List ℕ) where
           ∙ ap (λ t. same_numbers xs ys && t) (ap₂ same_bool (sym ev) (sym ew) ∙ same_beq v w)
 
       pub other_variadic : beq v w ≡ false → false ≡ same (effect_at recs a) (effect_at recs b)
-      other_variadic z = sym (same_name ∙ ap (λ t. same_numbers xs ys && t) z ∙ and_false (same_numbers xs ys))
+      other_variadic z = sym (same_name ∙ ap (λ t. same_numbers xs ys && t) z ∙ and-false (same_numbers xs ys))
 
       pub same_parameters : beq v w ≡ true → (s : Bool) (us vs : List ℕ) → s ≡ same_numbers us vs → us ≡ xs → vs ≡ ys → s ≡ same (effect_at recs a) (effect_at recs b)
       same_parameters z s us vs es eu ev' =
-          es ∙ ap₂ same_numbers eu ev' ∙ sym (same_name ∙ ap (λ t. same_numbers xs ys && t) z ∙ and_true (same_numbers xs ys))
+          es ∙ ap₂ same_numbers eu ev' ∙ sym (same_name ∙ ap (λ t. same_numbers xs ys && t) z ∙ and-true (same_numbers xs ys))

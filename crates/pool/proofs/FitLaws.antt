@@ -1,6 +1,7 @@
 -- Whether there is room for all names and slots hold them: what the tests say together. Assumes nothing.
+use Rattle.std.proofs.lemmas.Bool.{and_parts}
 use mathlib.Core.Path.{◌≡◌, refl}
-use mathlib.Core.Bool.{Bool, true, false, ◌&&◌}
+use mathlib.Core.Bool.{true}
 use mathlib.Core.List.{List, [], ◌∷◌}
 use Prim.Native.Nat.{ℕ, zero, suc, ◌*◌, ◌≤◌, ◌<◌}
 use native.Mathlib.Omega.{arith}
@@ -13,14 +14,10 @@ use Rattle.pool.specs.NameWords.{under, fits}
 use Rattle.pool.specs.NameSteps.{Fits}
 use Rattle.pool.specs.Resolve.{Grown}
 
-both : (a b : Bool) → a && b ≡ true → (a ≡ true) × (b ≡ true)
-both true b e = (refl, e)
-both false b e = absurd (let z : ◌≡◌ {A = ℕ} 0 1 = cc in omega arith)
-
 pub under_at : (n : ℕ) (xs : List ℕ) → under n xs ≡ true → (m : ℕ) → m < length xs → get_or xs m 0 < n
 under_at n [] e m h = absurd (omega arith)
-under_at n (x ∷ xs) e zero h = ltb-true x n (both (ltb x n) (under n xs) e).0
-under_at n (x ∷ xs) e (suc m) h = under_at n xs (both (ltb x n) (under n xs) e).1 m (omega arith)
+under_at n (x ∷ xs) e zero h = ltb-true x n (and_parts (ltb x n) (under n xs) e).0
+under_at n (x ∷ xs) e (suc m) h = under_at n xs (and_parts (ltb x n) (under n xs) e).1 m (omega arith)
 
 at_under : (n : ℕ) (xs : List ℕ) → ((m : ℕ) → m < length xs → get_or xs m 0 < n) → under n xs ≡ true
 at_under n [] h = refl
@@ -31,11 +28,11 @@ module _ (t : Semantic) (entries spans : ℕ) where
   pub fits_all : fits t entries spans ≡ true → Fits t entries spans
   unfolding fits
   fits_all e =
-      let p1 = both (leb (function_count t) 256) _ e in
-      let p2 = both (leb (length t.members) 1024) _ p1.1 in
-      let p3 = both (leb (length t.members * 3) entries) _ p2.1 in
-      let p4 = both (leb (function_count t) spans) _ p3.1 in
-      let p5 = both (eqb (start_of_share t (function_count t)) (length t.members)) _ p4.1 in
+      let p1 = and_parts (leb (function_count t) 256) _ e in
+      let p2 = and_parts (leb (length t.members) 1024) _ p1.1 in
+      let p3 = and_parts (leb (length t.members * 3) entries) _ p2.1 in
+      let p4 = and_parts (leb (function_count t) spans) _ p3.1 in
+      let p5 = and_parts (eqb (start_of_share t (function_count t)) (length t.members)) _ p4.1 in
       record {
         functions_limit = leb-true _ _ p1.0;
         members_limit = leb-true _ _ p2.0;

@@ -13,7 +13,7 @@ use Rattle.pool.specs.Chain.{no_chains, chained}
 use Rattle.pool.specs.declared.chain.Chain.{Chain}
 use Rattle.pool.specs.NameWords.{no_span, span_of}
 use Rattle.pool.specs.NameSteps.{parent_owner}
-use Rattle.pool.specs.ResolveSteps.{InnerChains, Begun}
+use Rattle.pool.specs.ResolveSteps.{InnerChains}
 use Rattle.pool.specs.declared.spans.Span.{Span}
 use lib.Seq.{get_or-set_same, get_or-set_other}
 use Rattle.pool.proofs.ChainLaws.{chain_start, chain_skip, chain_more}
@@ -39,11 +39,13 @@ module _ (functions : List ℕ) (sp₀ : List Span) (c₀ : Chain 257) where
         spans_long = refl;
       }
 
-  pub begin_most : pairs functions ≤ 256 → share_start functions (pairs functions) ≤ 1024 → (f start : ℕ) (sp : List Span) (c : Chain 257) → f < pairs functions → Beginning f start sp c
+  pub begin_most : pairs functions ≤ 256 → share_start functions (pairs functions) ≤ 1024 → (f start : ℕ) (sp : List Span) (c : Chain 257) → f < pairs functions
+      → Beginning f start sp c
       → start + member_count functions f ≤ 1024
   begin_most n m f start sp c p h = omega (arith, h.start_is, start_next functions f, start_mono functions (f + 1) (pairs functions) (omega arith))
 
-  module _ (few : pairs functions ≤ 256) (f start : ℕ) (sp : List Span) (c : Chain 257) (sp' : List Span) (c' : Chain 257) (o count : ℕ) (inside : f < pairs functions) (h : Beginning f start sp c)
+  module _ (few : pairs functions ≤ 256) (f start : ℕ) (sp : List Span) (c : Chain 257) (sp' : List Span) (c' : Chain 257) (o count : ℕ) (inside : f < pairs functions)
+      (h : Beginning f start sp c)
       (es : sp' ≡ set sp f (record { start = start; locals = 0; globals = 0; upvalues = 0 })) (eo : o ≡ parent_owner functions f)
       (ew : c' ≡ chained c o (f + 1)) (ec : count ≡ member_count functions f) where
     chains_next : c₀ ≡ no_chains 257 → InnerChains functions (suc (f + 1)) c'
@@ -72,13 +74,3 @@ module _ (functions : List ℕ) (sp₀ : List Span) (c₀ : Chain 257) where
           past = λ j p. ap (λ (l : List Span). span_of l j) es ∙ (get_or-set_other sp f j _ no_span (λ e. omega arith) ∙ h.past j p);
           spans_long = ap length es ∙ (length-set sp f _ ∙ h.spans_long);
         }
-
-  pub begin_last : (f start : ℕ) (sp : List Span) (c : Chain 257) → pairs functions ≤ f → Beginning f start sp c → Begun functions sp₀ c₀ sp c
-  begin_last f start sp c e h =
-      let z : f ≡ pairs functions = omega (arith, h.upto) in
-      record {
-        chained = λ q. subst (λ (k : ℕ). InnerChains functions (suc k) c) z (h.chains q);
-        starts = λ r g p. h.starts r g (omega arith);
-        past = h.past;
-        spans_long = h.spans_long;
-      }

@@ -1,4 +1,5 @@
 -- Going through the Idents of an owner and noting each. Assumes nothing.
+use Rattle.std.proofs.lemmas.Bool.{cond-true, and_parts}
 use mathlib.Core.Path.{◌≡◌, refl, sym, ap, ap₂, ◌∙◌}
 use mathlib.Core.Bool.{Bool, true, false, cond, ◌&&◌}
 use mathlib.Core.List.{List}
@@ -22,8 +23,7 @@ use Rattle.pool.specs.Lookups.{load_in, store_in}
 use Rattle.pool.specs.NameSteps.{owner_names, Shown}
 use Rattle.pool.specs.Notes.{RECORDS, LOADS, STORES, load_note, store_note, note_ident}
 use Rattle.pool.specs.ResolveSteps.{of_owner, IdentChains, notes_at, ident_notes, NotedIn, IdentBelow, NotedBelow, NotesIdents}
-use Rattle.pool.proofs.Basics.{on_true}
-use Rattle.pool.proofs.ChainLaws.{first, halt_first, halt_next, none_above, none_between, next_less}
+use Rattle.pool.proofs.ChainLaws.{halt_first, halt_next, none_above, none_between, next_less}
 
 -- a load or a store by the stamped names is that of the owner's function
 module _ (t : Semantic) (sc : Scope) (h : Shown t sc) (some : 0 < owner_of sc) where
@@ -80,7 +80,7 @@ module _ (ns : List ℕ) (r a b : ℕ) where
   note_here : r < RECORDS → length ns ≡ 12288 → notes_at (note_ident ns r a b) r ≡ (a, b)
   unfolding note_ident
   note_here h l =
-      let e : note_ident ns r a b ≡ set mid (STORES + r) b = on_true _ _ _ (lt-ltb r RECORDS h) in
+      let e : note_ident ns r a b ≡ set mid (STORES + r) b = cond-true _ _ _ (lt-ltb r RECORDS h) in
       let x : get_or (set mid (STORES + r) b) (LOADS + r) 0 ≡ a =
       get_or-set_other mid (STORES + r) (LOADS + r) b 0 (λ q. omega arith) ∙ get_or-set_same ns (LOADS + r) a 0 (omega arith) in
       let y : get_or (set mid (STORES + r) b) (STORES + r) 0 ≡ b = get_or-set_same mid (STORES + r) b 0 (omega (arith, length-set ns (LOADS + r) a)) in
@@ -236,7 +236,7 @@ module _ (recs symbols references : List ℕ) (sc : Scope) (ns : List ℕ) where
           record {
             positive = omega (arith, l.later);
             inside = l.inside;
-            ident = first (item recs owners sc q) _ l.own;
+            ident = (and_parts (item recs owners sc q) _ l.own).0;
             owned = omega arith;
             before = omega arith;
           }

@@ -1,6 +1,7 @@
 -- Going through the functions inside an owner and naming each. Assumes nothing.
+use Rattle.std.proofs.lemmas.Bool.{cond-true, and_parts}
 use mathlib.Core.Path.{◌≡◌, refl, sym, ap, ◌∙◌}
-use mathlib.Core.Bool.{Bool, true, false, cond, ◌&&◌}
+use mathlib.Core.Bool.{Bool, true, false, cond}
 use mathlib.Core.List.{List}
 use mathlib.Core.Logic.{◌⊎◌, inl, inr}
 use Prim.Native.Nat.{ℕ, suc, ◌+◌, ◌-◌, ◌%◌, ◌≤◌, ◌<◌}
@@ -18,8 +19,7 @@ use Rattle.pool.specs.Scope.{owner_of}
 use Rattle.pool.specs.declared.scope.Scope.{Scope}
 use Rattle.pool.specs.NameWords.{span_of, class_of}
 use Rattle.pool.specs.NameSteps.{class_in, entries_named, spans_named, Fits, parent_owner, owner_names, Shown}
-use Rattle.pool.specs.ResolveSteps.{of_owner, InnerChains, share_from, Made, MadeBelow, NamesInners}
-use Rattle.pool.proofs.Basics.{on_true}
+use Rattle.pool.specs.ResolveSteps.{of_owner, InnerChains, share_from, Made, MadeBelow}
 use Rattle.pool.proofs.ChainLaws.{halt_first, halt_next, none_above, none_between}
 use Rattle.pool.proofs.NameUpto.{share_fits}
 use Rattle.pool.proofs.MadeLaws.{made_weaken, made_more}
@@ -59,12 +59,8 @@ module _ (functions : List ℕ) (sc : Scope) where
 
   is_inside : pairs functions ≤ 256 → (x : ℕ) → 0 < x → Halting x → parent_owner functions (x - 1) ≡ owner_of sc
   is_inside few x p h =
-      let e : parent_owner functions (x - 1) % OWNERS ≡ owner_of sc = eqb-true _ _ (right (item x) _ (h p).1) in
+      let e : parent_owner functions (x - 1) % OWNERS ≡ owner_of sc = eqb-true _ _ (and_parts (item x) _ (h p).1).1 in
       omega (arith, parent_before functions (x - 1), (h p).0)
-    where
-      right : (a b : Bool) → a && b ≡ true → b ≡ true
-      right true b e = e
-      right false b e = absurd (let z : ◌≡◌ {A = ℕ} 0 1 = cc in omega arith)
 
   -- functions inside earlier owners are named, and those of this one behind x
   abbrev Behind : ℕ → ℕ → Type 0
@@ -92,7 +88,8 @@ module _ (symbols functions members : List ℕ) (sc : Scope) (ws : List ℕ) (sp
           → (f : ℕ) → f < pairs functions → Behind functions sc x f → parent_owner functions f < owner_of sc
       go references few chains lim f p (inl b) = b
       go references few chains lim f p (inr (b, c)) =
-          absurd (none_above (item functions sc) (owner functions sc) sc.inners sc.owner (suc (pairs functions)) few chains x e (suc f) c (omega arith) (inside_is functions sc lim f p b))
+          absurd (none_above (item functions sc) (owner functions sc) sc.inners sc.owner (suc (pairs functions)) few chains x e (suc f) c (omega arith)
+          (inside_is functions sc lim f p b))
 
   -- function x - 1 is named, and y comes next
   module _ (x y : ℕ) (ws₁ : List ℕ) (sp₁ : List Span) (ws₂ : List ℕ) (sp₂ : List Span) (share₁ : List ℕ) (some : 0 < x) (h : Naming x ws₁ sp₁)
@@ -115,7 +112,7 @@ module _ (symbols functions members : List ℕ) (sc : Scope) (ws : List ℕ) (sp
             let o : parent_owner functions f ≡ owner_of sc = is_inside functions sc fit.functions_limit x some s in
             let k : share₁ ≡ share t f =
             es ∙ (ap (λ (a : ℕ). share_from functions members a f) (m.starts f i)
-            ∙ on_true _ _ _ (le-leb (share_start functions f + member_count functions f) (length members) (share_fits t fit.counted f i))) in
+            ∙ cond-true _ _ _ (le-leb (share_start functions f + member_count functions f) (length members) (share_fits t fit.counted f i))) in
             let c : (z : ℕ) → class_in symbols sc z ≡ class_of t (owner_names t (parent_owner functions f)) z =
             λ z. class_shown t sc shown z ∙ ap (λ (q : ℕ). class_of t (owner_names t q) z) (sym o) in (
               halt_next (item functions sc) (owner functions sc) sc.inners sc.owner (suc (pairs functions)) few chains x y some s ey,
@@ -134,18 +131,3 @@ module _ (symbols functions members : List ℕ) (sc : Scope) (ws : List ℕ) (sp
                 at (no z) (inr w) =
                     absurd (none_between (item functions sc) (owner functions sc) sc.inners sc.owner (suc (pairs functions)) few chains x y some s ey (suc g) c (omega arith)
                     (inside_is functions sc lim g p b))
-
-  pub naming_last : (x : ℕ) (ws' : List ℕ) (sp' : List Span) → x ≡ 0 → Naming x ws' sp' → NamesInners symbols functions members sc ws sp ws' sp'
-  naming_last x ws' sp' e h =
-      record {
-        named = λ references ws₀ sp₀ fit chains shown made.
-            made_weaken (semantic symbols references functions members) (Behind functions sc x) _ ws₀ sp₀ ws' sp' (λ f p b. go f b)
-            (h.named references ws₀ sp₀ fit chains shown made).1;
-      }
-    where
-      go : (f : ℕ) → parent_owner functions f < suc (owner_of sc) → Behind functions sc x f
-      go f b = at (ℕ_discrete (parent_owner functions f) (owner_of sc))
-        where
-          at : Dec (parent_owner functions f ≡ owner_of sc) → Behind functions sc x f
-          at (yes z) = inr (z, omega arith)
-          at (no z) = inl (omega arith)

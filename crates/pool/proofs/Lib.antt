@@ -4,7 +4,6 @@ pub mod SearchLaws
 pub mod ConstsLaws
 pub mod TableLaws
 pub mod LaidLaws
-pub mod Basics
 pub mod PutLaws
 pub mod WordParts
 pub mod EntryLaws
@@ -16,7 +15,6 @@ pub mod NameUpto
 pub mod NamesLaws
 pub mod ChainLaws
 pub mod RecordPass
-pub mod ReadLaws
 pub mod FunctionPass
 pub mod ShownLaws
 pub mod MadeLaws

@@ -1,4 +1,5 @@
 -- Names made function by function, in any order: one more leaves the others as they are, and all of them are the whole. Assumes nothing.
+use Rattle.std.proofs.lemmas.Bool.{cond-true}
 use mathlib.Core.Path.{◌≡◌, sym, ap, ap₂, subst, ◌∙◌}
 use mathlib.Core.Bool.{true}
 use mathlib.Core.List.{List, [], ◌∷◌, ◌++◌}
@@ -18,7 +19,6 @@ use Rattle.pool.specs.NameWords.{entries_after, spans_after}
 use Rattle.pool.specs.NameSteps.{entries_named, spans_named, Stands, Fits, parent_owner, owner_names}
 use Rattle.pool.specs.ResolveSteps.{Made}
 use Rattle.pool.specs.declared.names.Class.{Class}
-use Rattle.pool.proofs.Basics.{on_true}
 use Rattle.pool.proofs.WordParts.{sets_other, sets_stand, stands_append, stands_same, over_words, over_items}
 use Rattle.pool.proofs.EntryLaws.{words_length, words_append, laid_sets}
 use Rattle.pool.proofs.NameTables.{made_same}
@@ -49,7 +49,8 @@ module _ (t : Semantic) (ws₀ : List ℕ) (sp₀ : List Span) (fit : Fits t (le
       go (inr h) = inr (omega (arith, start_more t g, start_mono t.functions (suc g) f (omega arith)))
 
   -- function f is named
-  module _ (done : ℕ → Type 0) (ws : List ℕ) (sp : List Span) (ws' : List ℕ) (sp' : List Span) (m : Made t done ws₀ sp₀ ws sp) (f : ℕ) (h : f < function_count t) (cl : ℕ → Class) (ss : List ℕ)
+  module _ (done : ℕ → Type 0) (ws : List ℕ) (sp : List Span) (ws' : List ℕ) (sp' : List Span) (m : Made t done ws₀ sp₀ ws sp) (f : ℕ) (h : f < function_count t) (cl : ℕ → Class)
+      (ss : List ℕ)
       (ec : (s : ℕ) → cl s ≡ class_of t (owner_names t (parent_owner t.functions f)) s) (es : ss ≡ share t f)
       (ew : ws' ≡ entries_named cl ss ws (span_of sp f).start) (ep : sp' ≡ spans_named cl ss sp f) where
     abbrev a : ℕ
@@ -71,7 +72,7 @@ module _ (t : Semantic) (ws₀ : List ℕ) (sp₀ : List Span) (fit : Fits t (le
     unfolding entries_named
     words =
         ew
-        ∙ (on_true _ _ _ (le-leb _ _ few)
+        ∙ (cond-true _ _ _ (le-leb _ _ few)
         ∙ (ap₂ (λ (k : ℕ) (x : Names). entries_laid ws k (entries_of x)) (m.starts f h) is_made
         ∙ laid_sets ws a (entries_of n) (omega (arith, count, share_fits t fit.counted f h, m.entries_long, fit.entries_room))))
 
@@ -79,7 +80,7 @@ module _ (t : Semantic) (ws₀ : List ℕ) (sp₀ : List Span) (fit : Fits t (le
     unfolding spans_named
     places =
         ep
-        ∙ (on_true _ _ _ (le-leb _ _ few)
+        ∙ (cond-true _ _ _ (le-leb _ _ few)
         ∙ ap₂ (λ (k : ℕ) (x : Names). set sp f (span_for k x)) (m.starts f h) is_made)
 
     entry_other : (j : ℕ) → (j < a * 3) ⊎ ((a + count_of_members t f) * 3 ≤ j) → get_or ws' j 0 ≡ get_or ws j 0
@@ -187,11 +188,11 @@ module _ (t : Semantic) (ws₀ : List ℕ) (sp₀ : List Span) (fit : Fits t (le
     made_entries e =
         over_words ws ws₀ (words_of (all_entries (names_upto t c))) m.entries_long (omega (arith, all_words, fit.entries_room)) (front c (omega arith))
         (λ j p. m.entries_past j (omega (arith, all_words)))
-        ∙ sym (on_true _ _ _ e)
+        ∙ sym (cond-true _ _ _ e)
 
     pub made_spans : fits t (length ws₀) (length sp₀) ≡ true → sp ≡ spans_after t ws₀ sp₀
     unfolding spans_after
     made_spans e =
         over_items no_span sp sp₀ (spans_from 0 (names_upto t c)) m.spans_long (omega (arith, all_spans, fit.spans_room))
         (λ g p. sym (places_front c (omega arith) g (omega (arith, all_spans)))) (λ j p. m.spans_past j (omega (arith, all_spans)))
-        ∙ sym (on_true _ _ _ e)
+        ∙ sym (cond-true _ _ _ e)

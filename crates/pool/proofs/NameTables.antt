@@ -1,27 +1,25 @@
 -- The three tables of a function: taking its symbols in order comes to one pass for each table. Assumes nothing.
+use Rattle.std.proofs.lemmas.Bool.{cond-true}
 use mathlib.Core.Path.{◌≡◌, refl, sym, ap, ap₂, ◌∙◌}
 use mathlib.Core.Bool.{Bool, true, false, cond}
 use mathlib.Core.List.{List, [], ◌∷◌, ◌++◌, append_assoc, append-nil}
 use Prim.Native.Nat.{ℕ, suc, ◌+◌, ◌-◌, ◌≤◌, ◌<◌}
 use native.Mathlib.Omega.{arith}
 use lib.ListN.{set, length, get_or, take, length-append, length-take}
-use lib.Seq.{take-suc, take-length}
-use borrow.Author.Tests.{le-leb, lt-leb}
+use lib.Seq.{take-suc}
+use borrow.Author.Tests.{le-leb}
 use denote.Enum.Bare.{sameb}
 use Rattle.std.specs.Prelude.{Option, Some, None}
 use Rattle.pool.specs.declared.spans.Span.{Span}
-use Rattle.pool.specs.Consts.{put3}
 use Rattle.pool.specs.Scope.{same_table}
 use Rattle.pool.specs.declared.scope.Table.{Table}
 use Rattle.pool.specs.contracts.scope.Table.{the_type}
 use Rattle.pool.specs.declared.scope.Table.TheVariants.{Locals, Globals, Upvalues}
 use Rattle.pool.specs.Names.{Semantic, Upvalue, upvalue_symbols, Names, no_names, is_global, index_of, captured, with_symbol, with_symbols}
-use Rattle.pool.specs.NameWords.{plain, plains, entries_of, entries_laid, span_of, captured_as, class_of, slot_of, entry_for, chosen, made}
+use Rattle.pool.specs.NameWords.{plain, plains, entries_of, entries_laid, span_of, captured_as, class_of, table_of, entry_of, entry_for, chosen, made}
 use Rattle.pool.specs.NameSteps.{entries_named, spans_named}
 use Rattle.pool.specs.declared.names.Class.{Class}
 use Rattle.pool.specs.declared.names.Class.TheVariants.{Local as Own, Global as Shared, CapturedLocal, CapturedUpvalue}
-use Rattle.pool.specs.declared.names.Slot.{Slot}
-use Rattle.pool.proofs.Basics.{on_true, on_false}
 use Rattle.pool.proofs.EntryLaws.{laid_append}
 
 pub symbols_length : (es : List Upvalue) → length (upvalue_symbols es) ≡ length es
@@ -66,26 +64,6 @@ tables_compared Upvalues Locals = refl
 tables_compared Upvalues Globals = refl
 tables_compared Upvalues Upvalues = refl
 
--- one symbol in the pass for table k, by its class and slot
-module _ (ws ws' : List ℕ) (n : ℕ) (k : Table) (s : ℕ) (cl c : Class) (slot : Slot) (ec : c ≡ cl) (es : slot ≡ slot_of c) where
-  abbrev as_slot : Slot → List Upvalue
-  as_slot x = cond (same_table x.table k) (record { symbol = s; capture = x.capture; index = x.index } ∷ []) []
-
-  seen : entry_for k cl s ≡ as_slot slot
-  seen = ap (λ (x : Class). entry_for k x s) (sym ec) ∙ ap as_slot (sym es)
-
-  pub step_kept : same_table slot.table k ≡ true → ws' ≡ put3 ws n s slot.capture slot.index → (ws' ≡ entries_laid ws n (entry_for k cl s)) × (n + 1 ≡ n + length (entry_for k cl s))
-  unfolding entries_laid
-  step_kept et p =
-      let e = seen ∙ on_true _ _ _ et in (
-        p ∙ sym (ap (entries_laid ws n) e),
-        omega (arith, ap length e),
-      )
-
-  pub step_left : same_table slot.table k ≡ false → (ws ≡ entries_laid ws n (entry_for k cl s)) × (n ≡ n + length (entry_for k cl s))
-  unfolding entries_laid
-  step_left et = let e = seen ∙ on_false _ _ _ et in (sym (ap (entries_laid ws n) e), omega (arith, ap length e))
-
 -- a pass over the share
 module _ (k : Table) (cl : ℕ → Class) where
   abbrev pub one : ℕ → List Upvalue
@@ -97,7 +75,7 @@ module _ (k : Table) (cl : ℕ → Class) where
   chosen_snoc (x ∷ ss) s = ap (λ (l : List Upvalue). one x ++ l) (chosen_snoc ss s) ∙ sym (append_assoc (one x) (chosen k cl ss) (one s))
 
   one_most : (s : ℕ) → length (one s) ≤ 1
-  one_most s = go (same_table (slot_of (cl s)).table k) (record { symbol = s; capture = (slot_of (cl s)).capture; index = (slot_of (cl s)).index })
+  one_most s = go (same_table (table_of (cl s)) k) (entry_of (cl s) s)
     where
       go : (b : Bool) (u : Upvalue) → length {A = Upvalue} (cond b (u ∷ []) []) ≤ 1
       go true u = omega arith
@@ -133,11 +111,6 @@ module _ (k : Table) (cl : ℕ → Class) where
               ∙ (sym (laid_append ws₀ n (chosen k cl (take i share)) (one s)) ∙ ap (entries_laid ws₀ n) (sym t)));
           place = omega (arith, q, p.place, ap length t, length-append (chosen k cl (take i share)) (one s));
         }
-
-    pub pass_end : (ws : List ℕ) (m i : ℕ) → i ≡ length share → PassedPart ws m i → (ws ≡ entries_laid ws₀ n (chosen k cl share)) × (m ≡ n + length (chosen k cl share))
-    pass_end ws m i e p =
-        let t : take i share ≡ share = rw e (take-length share) in
-        (p.words ∙ ap (λ (l : List ℕ). entries_laid ws₀ n (chosen k cl l)) t, p.place ∙ ap (λ (l : List ℕ). n + length (chosen k cl l)) t)
 
 -- entries of locals and globals capture nothing
 plain_if : (b : Bool) (s : ℕ) → plains (upvalue_symbols (cond b (plain s ∷ []) [])) ≡ cond b (plain s ∷ []) []
@@ -187,7 +160,7 @@ module _ (cl : ℕ → Class) (ss : List ℕ) where
         let z : b ≡ n + length (c1 ++ c2) = omega (arith, length-append c1 c2) in
         w3
         ∙ (ap₂ (λ (x : List ℕ) (y : ℕ). entries_laid x y c3) step2 z
-        ∙ (sym (laid_append ws n (c1 ++ c2) c3) ∙ (ap (entries_laid ws n) (append_assoc c1 c2 c3 ∙ in_turn) ∙ sym (on_true _ _ _ (le-leb _ _ few)))))
+        ∙ (sym (laid_append ws n (c1 ++ c2) c3) ∙ (ap (entries_laid ws n) (append_assoc c1 c2 c3 ∙ in_turn) ∙ sym (cond-true _ _ _ (le-leb _ _ few)))))
 
     pub span_laid : (sp sp' : List Span) (f s : ℕ) → s ≡ (span_of sp f).start → sp' ≡ set sp f (record { start = s; locals = a - n; globals = b - a; upvalues = e - b })
         → sp' ≡ spans_named cl ss sp f
@@ -196,12 +169,7 @@ module _ (cl : ℕ → Class) (ss : List ℕ) where
         let d1 : a - n ≡ length (upvalue_symbols c1) = omega (arith, symbols_length c1) in
         let d2 : b - a ≡ length (upvalue_symbols c2) = omega (arith, symbols_length c2) in
         let d3 : e - b ≡ length c3 = omega arith in
-        q ∙ (rw (d1, d2, d3, es) refl ∙ sym (on_true _ _ _ (le-leb _ _ few)))
-
--- more symbols than row 1 allows
-pub none_laid : (cl : ℕ → Class) (ss ws : List ℕ) (sp : List Span) (n f : ℕ) → 1024 < length ss → (ws ≡ entries_named cl ss ws n) × (sp ≡ spans_named cl ss sp f)
-unfolding entries_named spans_named
-none_laid cl ss ws sp n f h = (sym (on_false _ _ _ (lt-leb _ _ h)), sym (on_false _ _ _ (lt-leb _ _ h)))
+        q ∙ (rw (d1, d2, d3, es) refl ∙ sym (cond-true _ _ _ (le-leb _ _ few)))
 
 -- the tables with the entries of one symbol behind
 abbrev behind : Names → (Table → List Upvalue) → Names

@@ -1,4 +1,5 @@
 -- The words of notes, and what is read back from them. Assumes nothing.
+use Rattle.std.proofs.lemmas.Bool.{cond_both}
 use mathlib.Core.Path.{◌≡◌, refl, ap}
 use mathlib.Core.Bool.{Bool, true, false, cond}
 use mathlib.Core.Logic.{◌⊎◌, inl, inr}
@@ -34,16 +35,12 @@ StoreRule (global i) = Unit {0}
 StoreRule (upvalue i) = ⊥
 StoreRule (missing x) = (x ≡ Store) ⊎ (x ≡ Reference)
 
-either : (P : Access → Type 0) (b : Bool) (x y : Access) → P x → P y → P (cond b x y)
-either P true x y p q = p
-either P false x y p q = q
-
 load_rule : (t : Semantic) (f r : ℕ) → LoadRule (load t f r)
 unfolding load
 load_rule t f r =
     let n = names t f in
     let s = symbol_of t.references r in
-    either LoadRule (ltb r (length t.references)) _ _ (go (index_of n.locals s) (index_of (upvalue_symbols n.upvalues) s) (index_of n.globals s)) (inr refl)
+    cond_both (ltb r (length t.references)) _ _ LoadRule (λ _. go (index_of n.locals s) (index_of (upvalue_symbols n.upvalues) s) (index_of n.globals s)) (λ _. inr refl)
   where
     go : (l u g : Option ℕ) → LoadRule (first_found l u g)
     go (Some i) u g = tt
@@ -56,7 +53,7 @@ unfolding store
 store_rule t f r =
     let n = names t f in
     let s = symbol_of t.references r in
-    either StoreRule (ltb r (length t.references)) _ _ (go (is_global t s) (index_of n.globals s) (index_of n.locals s)) (inr refl)
+    cond_both (ltb r (length t.references)) _ _ StoreRule (λ _. go (is_global t s) (index_of n.globals s) (index_of n.locals s)) (λ _. inr refl)
   where
     go : (b : Bool) (g l : Option ℕ) → StoreRule (cond b (global_or Store g) (local_or Store l))
     go true (Some i) l = tt

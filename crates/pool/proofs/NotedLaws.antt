@@ -1,4 +1,5 @@
 -- The notes of all records, from those of each owner's Idents. Assumes nothing.
+use Rattle.std.proofs.lemmas.Bool.{cond-true, cond-false}
 use mathlib.Core.Path.{◌≡◌, refl, ap, ◌∙◌}
 use mathlib.Core.Bool.{Bool, true, false, cond}
 use mathlib.Core.List.{List}
@@ -19,7 +20,6 @@ use Rattle.pool.specs.NameSteps.{Fits}
 use Rattle.pool.specs.Notes.{RECORDS, earlier_noted, load_of, store_of, load_noted, store_noted, Noted}
 use Rattle.pool.specs.Resolve.{Grown, Resolved}
 use Rattle.pool.specs.ResolveSteps.{own_down, notes_at, ident_notes, IdentBelow, NotedBelow}
-use Rattle.pool.proofs.Basics.{on_true, on_false}
 use Rattle.pool.proofs.NameUpto.{share_fits}
 use Rattle.pool.proofs.NamesLaws.{names_members}
 use Rattle.pool.proofs.NoteLaws.{load_back, store_back}
@@ -28,11 +28,11 @@ use Rattle.pool.proofs.NoteLaws.{load_back, store_back}
 module _ (ns : List ℕ) (r a b : ℕ) (h : r < RECORDS) (e : notes_at ns r ≡ (a, b)) where
   loads : load_noted ns r ≡ load_of a
   unfolding load_noted
-  loads = on_true _ _ _ (lt-ltb r RECORDS h) ∙ ap (λ (x : ℕ × ℕ). load_of x.0) e
+  loads = cond-true _ _ _ (lt-ltb r RECORDS h) ∙ ap (λ (x : ℕ × ℕ). load_of x.0) e
 
   stores : store_noted ns r ≡ store_of b
   unfolding store_noted
-  stores = on_true _ _ _ (lt-ltb r RECORDS h) ∙ ap (λ (x : ℕ × ℕ). store_of x.1) e
+  stores = cond-true _ _ _ (lt-ltb r RECORDS h) ∙ ap (λ (x : ℕ × ℕ). store_of x.1) e
 
 no_load : load_of 0 ≡ missing Reference
 unfolding load_of
@@ -90,10 +90,10 @@ module _ (t : Semantic) (recs : List ℕ) (g : Grown t recs) (entries spans : �
         k,
         λ p. (
           (first_inside recs x p).1,
-          hand.child x q p ∙ (on_true _ _ _ e ∙ on_true _ _ _ (lt-ltb (word recs x 2) 256 (omega (arith, fit.functions_limit)))),
+          hand.child x q p ∙ (cond-true _ _ _ e ∙ cond-true _ _ _ (lt-ltb (word recs x 2) 256 (omega (arith, fit.functions_limit)))),
         ),
       )
-  down x fn q h o false e = (h, λ p. ((first_inside recs x p).1, hand.child x q p ∙ (on_false _ _ _ e ∙ o)))
+  down x fn q h o false e = (h, λ p. ((first_inside recs x p).1, hand.child x q p ∙ (cond-false _ _ _ e ∙ o)))
 
   all_noted : (l : ℕ) (fn : Words) → fn.p < function_count t → Within fn l → Noted t ns fn (forest recs l)
   unfolding Noted
@@ -121,7 +121,7 @@ module _ (t : Semantic) (recs : List ℕ) (g : Grown t recs) (entries spans : �
         noted = all_noted (first recs 0) (words recs 0) k
             (λ p. (
               (first_inside recs 0 p).1,
-              hand.child 0 some p ∙ (on_true _ _ _ g.root_function ∙ on_true _ _ _ (lt-ltb (word recs 0 2) 256 (omega (arith, fit.functions_limit)))),
+              hand.child 0 some p ∙ (cond-true _ _ _ g.root_function ∙ cond-true _ _ _ (lt-ltb (word recs 0 2) 256 (omega (arith, fit.functions_limit)))),
             ));
         root_load = loads ns 0 0 0 (omega arith) root ∙ no_load;
         root_store = stores ns 0 0 0 (omega arith) root ∙ no_store;
@@ -131,4 +131,4 @@ module _ (t : Semantic) (recs : List ℕ) (g : Grown t recs) (entries spans : �
       before : (c : ℕ) → 0 < next recs c → earlier_noted ns (next recs c) ≡ c
       before c p =
           let i = next_inside recs c p in
-          on_true _ _ _ (lt-ltb (next recs c) RECORDS (omega (arith, i.1, g.few))) ∙ earlier c (omega (arith, i.0, i.1)) p
+          cond-true _ _ _ (lt-ltb (next recs c) RECORDS (omega (arith, i.1, g.few))) ∙ earlier c (omega (arith, i.0, i.1)) p

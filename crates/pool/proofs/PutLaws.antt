@@ -1,4 +1,5 @@
 -- An entry written into lent words. Assumes nothing.
+use Rattle.std.proofs.lemmas.Bool.{cond-true, cond-false}
 use mathlib.Core.Path.{◌≡◌, refl, sym, ap, ◌∙◌}
 use mathlib.Core.Bool.{Bool, true, false, cond}
 use mathlib.Core.Logic.{◌⊎◌}
@@ -13,7 +14,6 @@ use Rattle.std.proofs.lemmas.List.{drop-drop}
 use Rattle.std.proofs.lemmas.List.Edits.{sets, sets-eq}
 use Rattle.pool.specs.Entries.{has_room, put_entry}
 use Rattle.pool.specs.NameSteps.{Stands}
-use Rattle.pool.proofs.Basics.{on_true, on_false}
 use Rattle.pool.proofs.WordParts.{sets_other, sets_stand}
 
 -- k is the width of an entry, a and b its bounds, which stay at the largest number m
@@ -26,7 +26,7 @@ module _ (ws : List ℕ) (n : ℕ) (xs : List ℕ) (k a b m : ℕ) (wide : lengt
       let e : i ≡ n * k = ap (λ (x : ℕ). n * x) wide in
       let from : a ≡ i = omega arith in
       let size : b - a ≡ length xs = omega arith in
-      rw (size, from, ey, drop-drop (length xs) i ws) (sym (on_true _ _ ws (le-leb (i + length xs) (length ws) (omega arith)) ∙ sets-eq xs ws i (omega arith)
+      rw (size, from, ey, drop-drop (length xs) i ws) (sym (cond-true _ _ ws (le-leb (i + length xs) (length ws) (omega arith)) ∙ sets-eq xs ws i (omega arith)
       ∙ append_assoc (take i ws) xs (drop (i + length xs) ws)))
 
   -- there is no room
@@ -34,13 +34,13 @@ module _ (ws : List ℕ) (n : ℕ) (xs : List ℕ) (k a b m : ℕ) (wide : lengt
   unfolding put_entry
   put_none h =
       let e : n * length xs ≡ n * k = ap (λ (x : ℕ). n * x) wide in
-      sym (on_false _ _ ws (lt-leb (n * length xs + length xs) (length ws) (omega arith)))
+      sym (cond-false _ _ ws (lt-leb (n * length xs + length xs) (length ws) (omega arith)))
 
 -- what an entry that is put leaves
 module _ (ws : List ℕ) (n : ℕ) (xs : List ℕ) where
   pub put_room : n * length xs + length xs ≤ length ws → put_entry ws n xs ≡ sets ws (n * length xs) xs
   unfolding put_entry
-  put_room h = on_true _ _ ws (le-leb (n * length xs + length xs) (length ws) h)
+  put_room h = cond-true _ _ ws (le-leb (n * length xs + length xs) (length ws) h)
 
   pub put_length : length (put_entry ws n xs) ≡ length ws
   unfolding put_entry

@@ -1,4 +1,5 @@
 -- The pass over the records: owners handed down the links, Idents chained to them, earlier siblings noted. Assumes nothing.
+use Rattle.std.proofs.lemmas.Bool.{cond-true}
 use mathlib.Core.Path.{◌≡◌, refl, sym, ap, subst, ◌∙◌}
 use mathlib.Core.Bool.{Bool, true, false, cond}
 use mathlib.Core.List.{List}
@@ -21,7 +22,6 @@ use Rattle.pool.specs.Chain.{no_chains, chained}
 use Rattle.pool.specs.declared.chain.Chain.{Chain}
 use Rattle.pool.specs.Notes.{LOADS, note_earlier}
 use Rattle.pool.specs.ResolveSteps.{own_down, IdentChains, Passed}
-use Rattle.pool.proofs.Basics.{on_true}
 use Rattle.pool.proofs.ChainLaws.{chain_start, chain_skip, chain_more, chain_owners}
 
 handed_length : (a : List ℕ) (x v : ℕ) → length (handed a x v) ≡ length a
@@ -55,7 +55,7 @@ module _ (ns : List ℕ) (s r : ℕ) where
 
   noted_here : r < s → s < 4096 → length ns ≡ 12288 → get_or (note_earlier ns s r) s 0 ≡ r
   unfolding note_earlier
-  noted_here a b l = ap (λ (x : List ℕ). get_or x s 0) (on_true _ _ _ (lt-ltb _ _ a) ∙ on_true _ _ _ (lt-ltb _ _ b)) ∙ get_or-set_same ns s r 0 (omega arith)
+  noted_here a b l = ap (λ (x : List ℕ). get_or x s 0) (cond-true _ _ _ (lt-ltb _ _ a) ∙ cond-true _ _ _ (lt-ltb _ _ b)) ∙ get_or-set_same ns s r 0 (omega arith)
 
 module _ (recs ns₀ : List ℕ) (c₀ : Chain 4096) where
   -- the first r records have had their turn
@@ -146,7 +146,3 @@ module _ (recs ns₀ : List ℕ) (c₀ : Chain 4096) where
         behind = h.behind;
         notes_long = h.notes_long;
       }
-
--- more records than row 1 allows
-pub pass_none : (recs ns : List ℕ) (c : Chain 4096) → 4096 < size recs → Passed recs ns c ns c
-pass_none recs ns c h = record { owned = λ f m. absurd (omega arith); behind = λ j p. refl; notes_long = refl }

@@ -1,7 +1,8 @@
 -- The turns of `resolve`: what holds before the first function, after each one, and at the end. Assumes nothing.
+use Rattle.std.proofs.lemmas.Bool.{cond-false}
 use mathlib.Core.Path.{◌≡◌, refl, sym, ap, subst, ◌∙◌}
-use mathlib.Core.Bool.{Bool, true, false}
-use mathlib.Core.List.{List, []}
+use mathlib.Core.Bool.{true, false}
+use mathlib.Core.List.{List}
 use mathlib.Core.Logic.{◌⊎◌, inl, inr}
 use Prim.Native.Nat.{ℕ, suc, ◌+◌, ◌≤◌, ◌<◌}
 use native.Mathlib.Omega.{arith}
@@ -11,24 +12,25 @@ use Rattle.tables.specs.Record.{size}
 use Rattle.tables.specs.Forest.{next}
 use Rattle.tables.specs.Scratch.{Handed}
 use Rattle.tables.specs.Semantic.{pairs}
+use Rattle.tables.specs.declared.lent.Tables.{Tables}
 use Rattle.tables.proofs.SemanticLaws.{split, past}
 use Rattle.tables.proofs.HandLaws.{next_inside}
-use Rattle.pool.specs.Names.{Semantic, semantic, function_count, upvalue_symbols, index_of}
+use Rattle.pool.specs.Names.{Semantic, semantic_of, function_count, start_of_share, upvalue_symbols, names, index_of}
 use Rattle.pool.specs.Scope.{SYMBOLS, no_scope, owner_of, index_at, index_in}
 use Rattle.pool.specs.declared.scope.Scope.{Scope}
 use Rattle.pool.specs.declared.scope.Table.{Table}
 use Rattle.pool.specs.declared.scope.Table.TheVariants.{Locals, Globals, Upvalues}
 use Rattle.pool.specs.declared.chain.Chain.{Chain}
 use Rattle.pool.specs.declared.scope.Stamp.{Stamp}
-use Rattle.pool.specs.NameWords.{span_of, fits, entries_after, spans_after}
+use Rattle.pool.specs.NameWords.{span_of, span_for, fits, entries_after, spans_after}
 use Rattle.pool.specs.NameSteps.{stamped_names, Fits, parent_owner, owner_names, Shown}
 use Rattle.pool.specs.Notes.{LOADS, STORES}
 use Rattle.pool.specs.Resolve.{Grown, Blank, Resolves}
 use Rattle.pool.specs.ResolveSteps.{own_down, IdentChains, InnerChains, Passed, Begun}
 use Rattle.pool.specs.ResolveSteps.{MadeBelow, NamesInners, notes_at, NotedBelow, NotesIdents}
 use Rattle.pool.specs.declared.spans.Span.{Span}
-use Rattle.pool.proofs.Basics.{on_false}
-use Rattle.pool.proofs.FitLaws.{fits_all}
+use Rattle.pool.proofs.NameUpto.{share_fits}
+use Rattle.pool.proofs.NamesLaws.{names_members}
 use Rattle.pool.proofs.StampLaws.{Older}
 use Rattle.pool.proofs.ShownLaws.{Turned, turn_stamped}
 use Rattle.pool.proofs.MadeLaws.{made_entries, made_spans}
@@ -52,15 +54,6 @@ none_at n j = go (split n j)
 
 pub blank_zeros : (ns : List ℕ) → ns ≡ replicate 12288 0 → Blank ns
 blank_zeros ns e = record { long = ap length e ∙ length-replicate {A = ℕ} 12288 0; zero = zeros_at 12288 ns e }
-
--- symbols and references have no part in what fits
-module _ (symbols references functions members : List ℕ) (entries spans : ℕ) {found : Bool} (e : found ≡ fits (semantic [] [] functions members) entries spans) where
-  pub fits_known : (b : Bool) → found ≡ b → fits (semantic symbols references functions members) entries spans ≡ b
-  unfolding fits
-  fits_known b q = sym e ∙ q
-
-  pub fit_known : found ≡ true → Fits (semantic symbols references functions members) entries spans
-  fit_known q = fits_all (semantic symbols references functions members) entries spans (fits_known true q)
 
 -- no names are those of no owner
 none_shown : (t : Semantic) (sc : Scope) → owner_of sc ≡ 0 → ((s : ℕ) → get_or sc.symbols s None ≡ None) → Shown t sc
@@ -92,15 +85,21 @@ module _ (t : Semantic) (recs : List ℕ) where
       pub long : length sc.symbols ≡ SYMBOLS
       pub notes : Grown t recs → Blank ns₀ → NotedSoFar o ns sc
 
-module _ (symbols references functions members recs ws₀ : List ℕ) (sp₀ : List Span) (ns₀ : List ℕ) where
+module _ (tables : Tables) (ws₀ : List ℕ) (sp₀ : List Span) (ns₀ : List ℕ) where
   abbrev t : Semantic
-  t = semantic symbols references functions members
+  t = semantic_of tables
+
+  abbrev functions : List ℕ
+  functions = tables.functions.now
+
+  abbrev recs : List ℕ
+  recs = tables.records.now
 
   module _ (fit : Fits t (length ws₀) (length sp₀)) where
     -- before the first function: no owner's names are stamped, and the functions inside none are named
     module _ (sc₀ : Scope) (ns₁ : List ℕ) (sp₁ : List Span) (idents₁ : Chain 4096) (inners₁ : Chain 257) (sc₂ : Scope) (ws₂ : List ℕ) (sp₂ : List Span) (zeros : sc₀ ≡ no_scope)
         (pass : Passed recs ns₀ sc₀.idents ns₁ idents₁) (begun : Begun functions sp₀ sc₀.inners sp₁ inners₁)
-        (scope : sc₂ ≡ record sc₀ { idents = idents₁; inners = inners₁ }) (named : NamesInners symbols functions members sc₂ ws₀ sp₁ ws₂ sp₂) where
+        (scope : sc₂ ≡ record sc₀ { idents = idents₁; inners = inners₁ }) (named : NamesInners tables.symbols.now functions tables.members.now sc₂ ws₀ sp₁ ws₂ sp₂) where
       is : sc₂ ≡ record no_scope { idents = idents₁; inners = inners₁ }
       is = scope ∙ ap (λ (x : Scope). record x { idents = idents₁; inners = inners₁ }) zeros
 
@@ -128,7 +127,7 @@ module _ (symbols references functions members recs ws₀ : List ℕ) (sp₀ : L
       first_made : MadeBelow t 1 ws₀ sp₀ ws₂ sp₂
       first_made =
           subst (λ (o : ℕ). MadeBelow t (suc o) ws₀ sp₀ ws₂ sp₂) no_owner
-          (named.named references ws₀ sp₀ fit inner₂ (none_shown t sc₂ no_owner none)
+          (named.named tables.references.now ws₀ sp₀ fit inner₂ (none_shown t sc₂ no_owner none)
           (subst (λ (o : ℕ). MadeBelow t o ws₀ sp₀ ws₀ sp₁) (sym no_owner) none_made))
 
       first_noted : Grown t recs → Blank ns₀ → NotedSoFar t recs 0 ns₁ sc₂
@@ -165,10 +164,25 @@ module _ (symbols references functions members recs ws₀ : List ℕ) (sp₀ : L
             notes = first_noted;
           }
 
+    -- the names of one function are no more than the members, which row 1 limits
+    pub span_few : (o : ℕ) (ws : List ℕ) (sp : List Span) (ns : List ℕ) (sc : Scope) → o < pairs functions → State t recs ws₀ sp₀ ns₀ o ws sp ns sc
+        → (span : Span) → span ≡ span_of sp o → span.locals + span.globals + span.upvalues ≤ 1024
+    span_few o ws sp ns sc h s span es =
+        let named : parent_owner functions o < suc o = omega (arith, parent_before functions o) in
+        let e : span ≡ span_for (start_of_share t o) (names t o) = es ∙ s.made.spans o h named in
+        omega (
+          arith,
+          ap (λ (x : Span). x.locals + x.globals + x.upvalues) e,
+          names_members t fit.counted o h,
+          share_fits t fit.counted o h,
+          fit.members_limit,
+        )
+
     -- function o has its turn
-    module _ (o : ℕ) (ws : List ℕ) (sp : List Span) (ns : List ℕ) (sc : Scope) (h : o < pairs functions) (s : State t recs ws₀ sp₀ ns₀ o ws sp ns sc) (span : Span) (sc' : Scope) (ns' ws' : List ℕ) (sp' : List Span)
-        (es : span ≡ span_of sp o) (ec : sc' ≡ stamped_names sc ws span (o + 1)) (en : NotesIdents recs symbols references sc' ns ns')
-        (em : NamesInners symbols functions members sc' ws sp ws' sp') where
+    module _ (o : ℕ) (ws : List ℕ) (sp : List Span) (ns : List ℕ) (sc : Scope) (h : o < pairs functions) (s : State t recs ws₀ sp₀ ns₀ o ws sp ns sc) (span : Span) (sc' : Scope)
+        (ns' ws' : List ℕ) (sp' : List Span)
+        (es : span ≡ span_of sp o) (ec : sc' ≡ stamped_names sc ws span (o + 1)) (en : NotesIdents recs tables.symbols.now tables.references.now sc' ns ns')
+        (em : NamesInners tables.symbols.now functions tables.members.now sc' ws sp ws' sp') where
       next_o : o + 1 ≡ suc o
       next_o = omega arith
 
@@ -186,7 +200,7 @@ module _ (symbols references functions members recs ws₀ : List ℕ) (sp₀ : L
       made_next : MadeBelow t (suc (suc o)) ws₀ sp₀ ws' sp'
       made_next =
           subst (λ (k : ℕ). MadeBelow t (suc k) ws₀ sp₀ ws' sp') turned.owner
-          (em.named references ws₀ sp₀ fit inner_next turned.shown (subst (λ (k : ℕ). MadeBelow t k ws₀ sp₀ ws sp) (sym turned.owner) s.made))
+          (em.named tables.references.now ws₀ sp₀ fit inner_next turned.shown (subst (λ (k : ℕ). MadeBelow t k ws₀ sp₀ ws sp) (sym turned.owner) s.made))
 
       noted_next : Grown t recs → Blank ns₀ → NotedSoFar t recs (suc o) ns' sc'
       noted_next g b =
@@ -199,7 +213,7 @@ module _ (symbols references functions members recs ws₀ : List ℕ) (sp₀ : L
             earlier = λ c p q. en.front (next recs c) (omega (arith, (next_inside recs c q).1, g.few)) ∙ n.earlier c p q;
             noted =
                 subst (λ (k : ℕ). NotedBelow t recs n.owners (suc k) ns') turned.owner
-                (en.noted functions members n.owners g.few chains turned.shown (omega (arith, turned.owner))
+                (en.noted functions tables.members.now n.owners g.few chains turned.shown (omega (arith, turned.owner))
                 (subst (λ (k : ℕ). NotedBelow t recs n.owners k ns) (sym turned.owner) n.noted));
           }
 
@@ -208,7 +222,8 @@ module _ (symbols references functions members recs ws₀ : List ℕ) (sp₀ : L
           subst (λ (k : ℕ). State t recs ws₀ sp₀ ns₀ k ws' sp' ns' sc') (sym next_o)
           (record { upto = omega arith; made = made_next; inside = inner_next; older = turned.older; long = turned.long; notes = noted_next })
 
-    pub state_last : (o : ℕ) (ws : List ℕ) (sp : List Span) (ns : List ℕ) (sc : Scope) → pairs functions ≤ o → fits t (length ws₀) (length sp₀) ≡ true → State t recs ws₀ sp₀ ns₀ o ws sp ns sc
+    pub state_last : (o : ℕ) (ws : List ℕ) (sp : List Span) (ns : List ℕ) (sc : Scope) → pairs functions ≤ o → fits t (length ws₀) (length sp₀) ≡ true
+        → State t recs ws₀ sp₀ ns₀ o ws sp ns sc
         → Resolves t recs ws₀ sp₀ ns₀ ws sp ns
     state_last o ws sp ns sc p e s =
         let z : o ≡ pairs functions = omega (arith, s.upto) in
@@ -227,26 +242,20 @@ module _ (symbols references functions members recs ws₀ : List ℕ) (sp₀ : L
   unfolding entries_after spans_after
   state_none e =
       record {
-        entries = sym (on_false _ _ _ e);
-        spans = sym (on_false _ _ _ e);
+        entries = sym (cond-false _ _ _ e);
+        spans = sym (cond-false _ _ _ e);
         notes = λ g f b. absurd (let z : ◌≡◌ {A = ℕ} 0 1 = cc in omega arith);
       }
 
 -- the turns of the first o functions, from the words that the loop begins with
-module _ (symbols references functions members recs ws : List ℕ) (sp : List Span) (ns : List ℕ) (sc : Scope) where
+module _ (tables : Tables) (ws : List ℕ) (sp : List Span) (ns : List ℕ) (sc : Scope) where
   pub record Turns (o : ℕ) (ws' : List ℕ) (sp' : List Span) (ns' : List ℕ) (sc' : Scope) : Type 0 where
-    pub turns : (ws₀ : List ℕ) (sp₀ : List Span) (ns₀ : List ℕ)
-        → (let t = semantic symbols references functions members in
-        Fits t (length ws₀) (length sp₀) → State t recs ws₀ sp₀ ns₀ 0 ws sp ns sc → State t recs ws₀ sp₀ ns₀ o ws' sp' ns' sc')
+    pub turns : (ws₀ : List ℕ) (sp₀ : List Span) (ns₀ : List ℕ) → Fits (semantic_of tables) (length ws₀) (length sp₀)
+        → State (semantic_of tables) tables.records.now ws₀ sp₀ ns₀ 0 ws sp ns sc → State (semantic_of tables) tables.records.now ws₀ sp₀ ns₀ o ws' sp' ns' sc'
 
-  pub turns_first : Turns 0 ws sp ns sc
-  turns_first = record { turns = λ ws₀ sp₀ ns₀ fit s. s }
-
-  pub turns_next : (o : ℕ) (ws₁ : List ℕ) (sp₁ : List Span) (ns₁ : List ℕ) (sc₁ : Scope) → o < pairs functions → Turns o ws₁ sp₁ ns₁ sc₁ → (span : Span) (sc₂ : Scope) (ns₂ ws₂ : List ℕ) (sp₂ : List Span)
-      → span ≡ span_of sp₁ o → sc₂ ≡ stamped_names sc₁ ws₁ span (o + 1) → NotesIdents recs symbols references sc₂ ns₁ ns₂
-      → NamesInners symbols functions members sc₂ ws₁ sp₁ ws₂ sp₂ → Turns (o + 1) ws₂ sp₂ ns₂ sc₂
+  pub turns_next : (o : ℕ) (ws₁ : List ℕ) (sp₁ : List Span) (ns₁ : List ℕ) (sc₁ : Scope) → o < pairs tables.functions.now → Turns o ws₁ sp₁ ns₁ sc₁ → (span : Span) (sc₂ : Scope)
+      (ns₂ ws₂ : List ℕ) (sp₂ : List Span) → span ≡ span_of sp₁ o → sc₂ ≡ stamped_names sc₁ ws₁ span (o + 1)
+      → NotesIdents tables.records.now tables.symbols.now tables.references.now sc₂ ns₁ ns₂
+      → NamesInners tables.symbols.now tables.functions.now tables.members.now sc₂ ws₁ sp₁ ws₂ sp₂ → Turns (o + 1) ws₂ sp₂ ns₂ sc₂
   turns_next o ws₁ sp₁ ns₁ sc₁ h p span sc₂ ns₂ ws₂ sp₂ es ec en em =
-      record {
-        turns = λ ws₀ sp₀ ns₀ fit s.
-            state_next symbols references functions members recs ws₀ sp₀ ns₀ fit o ws₁ sp₁ ns₁ sc₁ h (p.turns ws₀ sp₀ ns₀ fit s) span sc₂ ns₂ ws₂ sp₂ es ec en em;
-      }
+      record { turns = λ ws₀ sp₀ ns₀ fit s. state_next tables ws₀ sp₀ ns₀ fit o ws₁ sp₁ ns₁ sc₁ h (p.turns ws₀ sp₀ ns₀ fit s) span sc₂ ns₂ ws₂ sp₂ es ec en em }

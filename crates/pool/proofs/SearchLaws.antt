@@ -1,4 +1,5 @@
 -- The search through the entries of a table. Assumes nothing.
+use Rattle.std.proofs.lemmas.Bool.{cond-false}
 use mathlib.Core.Path.{◌≡◌, refl, sym, ap, ap₂, ◌∙◌}
 use mathlib.Core.Bool.{Bool, true, false, cond, ◌||◌}
 use mathlib.Core.List.{List}
@@ -11,7 +12,6 @@ use Rattle.std.specs.List.{find as first_of, range_with_len}
 use Rattle.pool.specs.Value.{Value, Const, same, find, seen, found}
 use Rattle.pool.specs.Consts.{const_of, at, entry, entries, table}
 use Rattle.tables.proofs.SemanticLaws.{split}
-use Rattle.pool.proofs.Basics.{on_false}
 
 module _ (recs ws : List ℕ) (v : Value) where
   abbrev pub hit : ℕ → Bool
@@ -41,7 +41,7 @@ module _ (recs ws : List ℕ) (v : Value) where
   unfolding entries seen find
   looked i zero zero a h b = refl
   looked i zero (suc n) a (inl e) b = absurd (omega arith)
-  looked i zero (suc n) a (inr h) b = sym (on_false _ _ None (none_past (i - 1) i (suc n) (omega arith) (omega arith) (b (omega arith))))
+  looked i zero (suc n) a (inr h) b = sym (cond-false _ _ None (none_past (i - 1) i (suc n) (omega arith) (omega arith) (b (omega arith))))
   looked i (suc m) zero a h b = absurd (omega arith)
   looked i (suc m) (suc n) a h b =
       let z : i + 1 ≡ suc i = omega arith in

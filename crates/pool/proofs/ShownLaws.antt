@@ -13,7 +13,7 @@ use Rattle.pool.specs.Scope.{SYMBOLS, table_number, same_table, owner_of, index_
 use Rattle.pool.specs.declared.scope.Scope.{Scope}
 use Rattle.pool.specs.declared.scope.Table.{Table}
 use Rattle.pool.specs.declared.scope.Table.TheVariants.{Locals, Globals, Upvalues}
-use Rattle.pool.specs.NameWords.{plains, words_of, entries_of, span_for, slot_of, class_of, chosen, made}
+use Rattle.pool.specs.NameWords.{plains, words_of, entries_of, span_for, table_of, class_of, chosen, made}
 use Rattle.pool.specs.NameSteps.{symbols_at, stamped_names, Stands, Fits, parent_owner, owner_names, Shown}
 use Rattle.pool.specs.declared.spans.Span.{Span}
 use Rattle.pool.specs.declared.names.Class.{Class}
@@ -21,7 +21,8 @@ use Rattle.pool.proofs.EntryLaws.{symbols_read, locals_stand, globals_stand, upv
 use Rattle.pool.proofs.NameTables.{plains_symbols, plains_length}
 use Rattle.pool.proofs.NameUpto.{share_fits, share_length}
 use Rattle.pool.proofs.NamesLaws.{Found, index_found, names_owned}
-use Rattle.pool.proofs.StampLaws.{stamps_length, stamps_owner, stamps_idents, stamps_inners, stamps_older, Older, older_missed, older_later, Slotted, found_own, found_kept, chosen_from}
+use Rattle.pool.proofs.StampLaws.{stamps_length, stamps_owner, stamps_idents, stamps_inners, stamps_older, Older}
+use Rattle.pool.proofs.StampLaws.{older_missed, older_later, Slotted, found_own, found_kept, chosen_from}
 
 -- the symbols of the entries are stamped
 names_stamped : (sc : Scope) (es : List ℕ) (a o : ℕ) (n : Names) → Stands es (a * 3) (words_of (entries_of n))
@@ -44,13 +45,14 @@ module _ (k : Table) (cl : ℕ → Class) (ss : List ℕ) where
   table_slotted : Slotted ss → Slotted table
   table_slotted u m p = (chosen_from k cl (λ x. x < SYMBOLS) ss u m p).1
 
-  table_class : (s j : ℕ) → index_of table s ≡ Some j → same_table (slot_of (cl s)).table k ≡ true
+  table_class : (s j : ℕ) → index_of table s ≡ Some j → same_table (table_of (cl s)) k ≡ true
   table_class s j e =
       let p : (j < length table) × (get_or table j 0 ≡ s) = subst (Found table s) e (index_found table s) in
-      subst (λ (x : ℕ). same_table (slot_of (cl x)).table k ≡ true) p.1 (chosen_from k cl (λ x. Unit {0}) ss (λ m q. tt) j p.0).0
+      subst (λ (x : ℕ). same_table (table_of (cl x)) k ≡ true) p.1 (chosen_from k cl (λ x. Unit {0}) ss (λ m q. tt) j p.0).0
 
 -- a symbol of one table is in no other
-apart : (k k' : Table) (cl : ℕ → Class) (ss : List ℕ) → (table_number k ≡ table_number k' → ⊥) → (s j : ℕ) → index_of (table k cl ss) s ≡ Some j → index_of (table k' cl ss) s ≡ None
+apart : (k k' : Table) (cl : ℕ → Class) (ss : List ℕ) → (table_number k ≡ table_number k' → ⊥) → (s j : ℕ) → index_of (table k cl ss) s ≡ Some j
+    → index_of (table k' cl ss) s ≡ None
 apart k k' cl ss d s j e = go (index_of (table k' cl ss) s) refl
   where
     go : (p : Option ℕ) → index_of (table k' cl ss) s ≡ p → p ≡ None

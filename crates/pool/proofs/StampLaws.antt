@@ -1,4 +1,5 @@
 -- Names stamped into the slots: what a look-up finds there. Assumes nothing.
+use Rattle.std.proofs.lemmas.Bool.{cond-true, cond-false}
 use mathlib.Core.Path.{◌≡◌, refl, sym, ap, ap₂, subst, ◌∙◌}
 use mathlib.Core.Bool.{Bool, true, false, cond}
 use mathlib.Core.List.{List, [], ◌∷◌, ◌++◌}
@@ -17,10 +18,9 @@ use Rattle.pool.specs.Scope.{SYMBOLS, table_number, same_table, stamp_of, index_
 use Rattle.pool.specs.declared.scope.Scope.{Scope}
 use Rattle.pool.specs.declared.scope.Stamp.{Stamp}
 use Rattle.pool.specs.declared.scope.Table.{Table}
-use Rattle.pool.specs.NameWords.{slot_of, chosen}
+use Rattle.pool.specs.NameWords.{table_of, entry_of, chosen}
 use Rattle.pool.specs.NameSteps.{symbols_at}
 use Rattle.pool.specs.declared.names.Class.{Class}
-use Rattle.pool.proofs.Basics.{on_true, on_false}
 
 -- the loop that stamps a table, from the last symbol to the first
 module _ (sc₀ : Scope) where
@@ -144,11 +144,11 @@ module _ (sc : Scope) (k : Table) (long : length sc.symbols ≡ SYMBOLS) where
       go (yes q) ih =
           let z : i + 0 ≡ i = omega arith in
           subst (λ (y : ℕ). index_in (stamped (stamps sc k (suc i) ss) k x i) k y ≡ shift i (cond (eqb x y) (Some 0) (option_map suc (index_of ss y)))) q
-          (looks_here i x ss (u 0 (omega arith)) k ∙ (on_true _ _ _ (eq-eqb (table_number k) (table_number k) refl)
-          ∙ (ap Some (sym z) ∙ ap (shift i) (sym (on_true _ _ _ (eq-eqb x x refl))))))
+          (looks_here i x ss (u 0 (omega arith)) k ∙ (cond-true _ _ _ (eq-eqb (table_number k) (table_number k) refl)
+          ∙ (ap Some (sym z) ∙ ap (shift i) (sym (cond-true _ _ _ (eq-eqb x x refl))))))
       go (no d) ih =
           looks_there i x ss (u 0 (omega arith)) k s d
-          ∙ (ih ∙ (shift_later i (index_of ss s) ∙ ap (shift i) (sym (on_false _ _ _ (ne_eqb x s d)))))
+          ∙ (ih ∙ (shift_later i (index_of ss s) ∙ ap (shift i) (sym (cond-false _ _ _ (ne_eqb x s d)))))
 
   pub found_own : (ss : List ℕ) → Slotted ss → (s : ℕ) → index_in sc k s ≡ None → index_in (stamps sc k 0 ss) k s ≡ index_of ss s
   found_own ss u s e = found_from 0 ss u s e ∙ shift_none (index_of ss s)
@@ -164,28 +164,28 @@ module _ (sc : Scope) (k : Table) (long : length sc.symbols ≡ SYMBOLS) where
           → index_in (stamped (stamps sc k (suc i) ss) k x i) k' s ≡ p
       go (yes q) ih =
           subst (λ (y : ℕ). index_in (stamped (stamps sc k (suc i) ss) k x i) k' y ≡ None) q
-          (looks_here i x ss (u 0 (omega arith)) k' ∙ on_false _ _ _ d) ∙ sym (n 0 (on_true _ _ _ (eq-eqb x s q)))
+          (looks_here i x ss (u 0 (omega arith)) k' ∙ cond-false _ _ _ d) ∙ sym (n 0 (cond-true _ _ _ (eq-eqb x s q)))
       go (no c) ih =
           looks_there i x ss (u 0 (omega arith)) k' s c
-          ∙ ih (λ j q. n (suc j) (on_false _ _ _ (ne_eqb x s c) ∙ ap (option_map suc) q))
+          ∙ ih (λ j q. n (suc j) (cond-false _ _ _ (ne_eqb x s c) ∙ ap (option_map suc) q))
 
 -- what holds of a share's symbols holds of those of a table, which are of its class
 module _ (k : Table) (cl : ℕ → Class) (P : ℕ → Type 0) where
   pub chosen_from : (ss : List ℕ) → ((m : ℕ) → m < length ss → P (get_or ss m 0)) → (j : ℕ) → j < length (upvalue_symbols (chosen k cl ss))
-      → (same_table (slot_of (cl (get_or (upvalue_symbols (chosen k cl ss)) j 0))).table k ≡ true) × P (get_or (upvalue_symbols (chosen k cl ss)) j 0)
+      → (same_table (table_of (cl (get_or (upvalue_symbols (chosen k cl ss)) j 0))) k ≡ true) × P (get_or (upvalue_symbols (chosen k cl ss)) j 0)
   unfolding chosen
   chosen_from [] h j p = absurd (omega arith)
-  chosen_from (s ∷ ss) h j p = go (same_table (slot_of (cl s)).table k) refl (λ i q. chosen_from ss (λ m r. h (suc m) (omega arith)) i q) j p
+  chosen_from (s ∷ ss) h j p = go (same_table (table_of (cl s)) k) refl (λ i q. chosen_from ss (λ m r. h (suc m) (omega arith)) i q) j p
     where
       rest : List Upvalue
       rest = chosen k cl ss
 
       one : Bool → List ℕ
-      one b = upvalue_symbols (cond b (record { symbol = s; capture = (slot_of (cl s)).capture; index = (slot_of (cl s)).index } ∷ []) [] ++ rest)
+      one b = upvalue_symbols (cond b (entry_of (cl s) s ∷ []) [] ++ rest)
 
-      go : (b : Bool) → same_table (slot_of (cl s)).table k ≡ b
-          → ((i : ℕ) → i < length (upvalue_symbols rest) → (same_table (slot_of (cl (get_or (upvalue_symbols rest) i 0))).table k ≡ true) × P (get_or (upvalue_symbols rest) i 0))
-          → (j : ℕ) → j < length (one b) → (same_table (slot_of (cl (get_or (one b) j 0))).table k ≡ true) × P (get_or (one b) j 0)
+      go : (b : Bool) → same_table (table_of (cl s)) k ≡ b
+          → ((i : ℕ) → i < length (upvalue_symbols rest) → (same_table (table_of (cl (get_or (upvalue_symbols rest) i 0))) k ≡ true) × P (get_or (upvalue_symbols rest) i 0))
+          → (j : ℕ) → j < length (one b) → (same_table (table_of (cl (get_or (one b) j 0))) k ≡ true) × P (get_or (one b) j 0)
       go true e ih zero q = (e, h 0 (omega arith))
       go true e ih (suc j) q = ih j (omega arith)
       go false e ih j q = ih j q

@@ -1,6 +1,7 @@
 -- What a load or a store finds in the names that are stamped. Definitions only.
-use Rattle.std.specs.Prelude.{cond, Option, option_map, List, ℕ, length, ltb, eqb}
+use Rattle.std.specs.Prelude.{cond, Option, option_map, Result, Ok, Err, List, ℕ, length, ltb, eqb}
 use Rattle.tables.specs.Semantic.{symbol_kind, symbol_of}
+use Rattle.tables.specs.declared.refusal.RunRule.{RunRule}
 use Rattle.tables.specs.declared.refusal.RunRule.TheVariants.{Reference, Store}
 use Rattle.pool.specs.Names.{Access, missing, first_found, global_or, local_or}
 use Rattle.pool.specs.Scope.{index_in}
@@ -19,6 +20,10 @@ global_at found = option_map (λ id. id.0) found
 
 abbrev pub upvalue_at : Option UpvalueNameId → Option ℕ
 upvalue_at found = option_map (λ id. id.0) found
+
+-- the symbol of a reference, or number 10: "reference out of range, where loaded or stored"
+abbrev pub symbol_in : List ℕ → ℕ → Result ℕ RunRule
+symbol_in references r = cond (ltb r (length references)) (Ok (symbol_of references r)) (Err Reference)
 
 -- "A load looks in locals, upvalues, globals."
 abbrev pub load_found : Scope → ℕ → Access

@@ -7,12 +7,16 @@ use Rattle.pool.specs.declared.scope.Scope.{Scope}
 use Rattle.pool.specs.declared.scope.Table.TheVariants.{Locals, Globals, Upvalues}
 use Rattle.pool.specs.NameWords.{entries_of, span_for, span_of, captured_as, made, entries_laid}
 use Rattle.pool.specs.declared.spans.Span.{Span}
+use Rattle.pool.specs.declared.lookup.Lookup.{Lookup}
 use Rattle.pool.specs.declared.names.Class.{Class}
 use Rattle.pool.specs.declared.names.Class.TheVariants.{Global as Shared}
 
 -- the class of a symbol by the stamped names
 abbrev pub class_in : List ℕ → Scope → ℕ → Class
 class_in symbols sc s = cond (eqb (symbol_kind symbols s) 1) Shared (captured_as (index_in sc Locals s) (index_in sc Upvalues s))
+
+abbrev pub class_by : Lookup → ℕ → Class
+class_by l s = class_in l.tables.now.symbols.now l.scope.now s
 
 -- a function's names from place n on, and its span; a share past row 1's limit has none
 unfoldable pub entries_named : (ℕ → Class) → List ℕ → List ℕ → ℕ → List ℕ

@@ -14,7 +14,6 @@ use Rattle.pool.specs.declared.lookup.Access.{Access as Answer}
 use Rattle.pool.specs.declared.lookup.Access.TheVariants.{Local, Global, Upvalue as Captured}
 use Rattle.pool.specs.declared.names.Class.{Class}
 use Rattle.pool.specs.declared.names.Class.TheVariants.{Local as Own, Global as Shared, CapturedLocal, CapturedUpvalue}
-use Rattle.pool.specs.declared.names.Slot.{Slot}
 
 -- what the code's answers say
 abbrev pub access_of : Result Answer RunRule → Access
@@ -41,6 +40,9 @@ all_entries [] = []
 all_entries (n ∷ ns) = entries_of n ++ all_entries ns
 
 -- "names (symbol, capture .., its index or 0)": three words an entry
+abbrev pub entry_words : Upvalue → List ℕ
+entry_words u = u.symbol ∷ u.capture ∷ u.index ∷ []
+
 unfoldable pub words_of : List Upvalue → List ℕ
 words_of [] = []
 words_of (u ∷ us) = u.symbol ∷ u.capture ∷ u.index ∷ words_of us
@@ -83,16 +85,26 @@ captured_as None u = upvalue_or_local u
 abbrev pub class_of : Semantic → Names → ℕ → Class
 class_of t up s = cond (is_global t s) Shared (captured_as (index_of up.locals s) (index_of (upvalue_symbols up.upvalues) s))
 
--- "capture 0 none, 1 Local, 2 Upvalue, its index or 0": the table and an entry's last two words
-abbrev pub slot_of : Class → Slot
-slot_of Own = record { table = Locals; capture = 0; index = 0 }
-slot_of Shared = record { table = Globals; capture = 0; index = 0 }
-slot_of (CapturedLocal i) = record { table = Upvalues; capture = 1; index = i.0 }
-slot_of (CapturedUpvalue i) = record { table = Upvalues; capture = 2; index = i.0 }
+-- "locals, globals, upvalues": the table that a symbol of that class goes to
+abbrev pub table_of : Class → Table
+table_of Own = Locals
+table_of Shared = Globals
+table_of (CapturedLocal i) = Upvalues
+table_of (CapturedUpvalue i) = Upvalues
+
+-- "capture 0 none, 1 Local, 2 Upvalue, its index or 0": an entry's last two words
+abbrev pub capture_of : Class → ℕ × ℕ
+capture_of Own = (0, 0)
+capture_of Shared = (0, 0)
+capture_of (CapturedLocal i) = (1, i.0)
+capture_of (CapturedUpvalue i) = (2, i.0)
+
+abbrev pub entry_of : Class → ℕ → Upvalue
+entry_of c s = record { symbol = s; capture = (capture_of c).0; index = (capture_of c).1 }
 
 -- the entry of a symbol of that class, if it is for table k
 abbrev pub entry_for : Table → Class → ℕ → List Upvalue
-entry_for k c s = cond (same_table (slot_of c).table k) (record { symbol = s; capture = (slot_of c).capture; index = (slot_of c).index } ∷ []) []
+entry_for k c s = cond (same_table (table_of c) k) (entry_of c s ∷ []) []
 
 -- "A function's symbols are taken in order": the entries of table k, by what class each symbol is of
 unfoldable pub chosen : Table → (ℕ → Class) → List ℕ → List Upvalue

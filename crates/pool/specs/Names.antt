@@ -1,6 +1,7 @@
 -- Each function's names and what a load or a store finds. Document 01, 'Down through a function'. Definitions only.
 use Rattle.std.specs.Prelude.{Bool, cond, Option, Some, None, option_map, List, [], ◌∷◌, ◌++◌, ℕ, zero, suc, length, get_or, ltb, eqb}
 use Rattle.tables.specs.Semantic.{pairs, symbol_kind, symbol_of, parent_of, member_count, share_start, share as share_of}
+use Rattle.tables.specs.declared.lent.Tables.{Tables}
 use Rattle.tables.specs.declared.refusal.RunRule.{RunRule}
 use Rattle.tables.specs.declared.refusal.RunRule.TheVariants.{Reference, Load, Store}
 
@@ -13,6 +14,9 @@ pub record Semantic : Type 0 where
 
 abbrev pub semantic : (symbols references functions members : List ℕ) → Semantic
 semantic symbols references functions members = record { symbols = symbols; references = references; functions = functions; members = members }
+
+abbrev pub semantic_of : Tables → Semantic
+semantic_of t = semantic t.symbols.now t.references.now t.functions.now t.members.now
 
 -- "3 symbols: kind (0 Local, 1 Global), name string"
 abbrev pub is_global : Semantic → ℕ → Bool

@@ -19,6 +19,10 @@ STORES = 8192
 abbrev pub SIZE : ℕ
 SIZE = 12288
 
+-- the word of record r from a place on, 0 where there is none
+abbrev pub word_at : List ℕ → ℕ → ℕ → ℕ
+word_at ns from r = cond (ltb r RECORDS) (get_or ns (from + r) 0) 0
+
 -- the earlier sibling of record r, 0 for none
 abbrev pub earlier_noted : List ℕ → ℕ → ℕ
 earlier_noted ns r = cond (ltb r RECORDS) (get_or ns r 0) 0

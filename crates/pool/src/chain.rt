@@ -14,7 +14,7 @@ pub struct Chain<const N: usize> {
 impl<const N: usize> Chain<N> {
     // The owner's first item.
     #[tactic(auto, unfolding(crate::specs::Chain::first_of))]
-    pub fn first(&self, owner: u32) -> usize
+    pub fn first(&self, owner: u16) -> usize
         ensures { result ≡ first_of self.now owner }
     {
         self.heads[owner as usize % OWNERS] as usize
@@ -35,7 +35,7 @@ impl<const N: usize> Chain<N> {
 
     // The item becomes the first of its owner's chain.
     #[tactic(auto, unfolding(crate::specs::Chain::chained))]
-    pub fn push(&mut self, owner: usize, item: usize)
+    pub(crate) fn push(&mut self, owner: usize, item: usize)
         requires { N ≤ 4096 }
         ensures { self.new ≡ chained self.old owner item }
     {

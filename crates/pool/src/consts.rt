@@ -40,6 +40,7 @@ fn words_at(consts: &[u32], i: usize) -> ConstWords
 }
 
 // Whether two constants, by their words, are equal.
+#[tactic(auto, using(crate::proofs::WordLaws::both_effects, crate::proofs::WordLaws::by_words))]
 fn same_words(records: &[u32], a: ConstWords, b: ConstWords) -> bool
     ensures { result ≡ same (constant records.now a).value (constant records.now b).value }
 {
@@ -82,6 +83,7 @@ pub fn start_consts(consts: &mut [u32]) -> usize
 }
 
 // An equal value's index, or the next one, where the value is then written if there is room.
+#[tactic(auto, using(crate::proofs::ConstsLaws::added_old, crate::proofs::ConstsLaws::added_new, crate::proofs::TableLaws::table_length))]
 pub fn add_const(records: &[u32], consts: &mut [u32], n: usize, words: ConstWords) -> Added
     ensures answer { result ≡ added (table records.now consts.old n) (room consts.old n) (constant records.now words) }
     ensures words { consts.new ≡ written records.now consts.old n words.kind words.low words.high }

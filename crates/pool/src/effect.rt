@@ -4,14 +4,14 @@ ghost use Rattle.tables.specs.Forest.{first as first_of, next as next_of};
 ghost use Rattle.pool.specs.Value.{same, same_numbers, effect_at};
 ghost use Rattle.pool.specs.Consts.{name_at, names_from, names_below, is_variadic};
 
-use tables::ast::{detail, first, kind, next, p, q};
-use tables::kind;
+use tables::ast::{first, flag, kind, next, p, q};
+use tables::kind::Kind;
 
 // The name string that an Effect or a Handler gives: an Effect's p, else its Ident's q.
 fn effect_name(records: &[u32], r: usize) -> u32
     ensures { result ≡ name_at records.now r }
 {
-    if kind(records, r) == kind::EFFECT {
+    if kind(records, r) == Kind::Effect {
         return p(records, r);
     }
     let ident = first(records, r);
@@ -32,14 +32,14 @@ fn params(records: &[u32], r: usize) -> usize
 fn variadic(records: &[u32], params: usize) -> bool
     ensures { result ≡ is_variadic records.now params }
 {
-    params != 0 && detail(records, params) == 1
+    params != 0 && flag(records, params)
 }
 
 // The first parameter; what is inside a Function is no part of the tree around it.
 fn parameter(records: &[u32], params: usize) -> usize
     ensures { names_from records.now result ≡ names_below records.now params }
 {
-    if params == 0 || kind(records, params) == kind::FUNCTION {
+    if params == 0 || kind(records, params) == Kind::Function {
         return 0;
     }
     first(records, params)

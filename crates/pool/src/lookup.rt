@@ -1,20 +1,20 @@
-// What a load or a store finds in the names that are stamped: the Rust's load and store, each search taken apart by let else.
+// What a load or a store finds in the names that are stamped: the Rust's load and store. A load's searches are taken apart by let else, as document 01 has it.
 ghost use Rattle.std.specs.Prelude.{◌≡◌, eqb};
 ghost use Rattle.tables.specs.Semantic.{symbol_kind};
-ghost use Rattle.tables.specs.declared.refusal.RunRule.TheVariants.{Store};
 ghost use Rattle.pool.specs.Scope.{index_in};
 ghost use Rattle.pool.specs.declared.scope.Table.TheVariants.{Locals, Globals, Upvalues};
-ghost use Rattle.pool.specs.Names.{else_upvalue, global_or, local_or};
-ghost use Rattle.pool.specs.Lookups.{local_at, global_at, upvalue_at, load_in, store_in, load_found, store_found};
+ghost use Rattle.pool.specs.Lookups.{local_at, global_at, upvalue_at, symbol_in, load_in, store_in, load_found, store_found};
 ghost use Rattle.pool.specs.NameWords.{access_of};
 
 use crate::scope::{Scope, Table};
 use opcode::index::{GlobalNameId, LocalNameId, UpvalueNameId};
+use tables::kind::SymbolKind;
+use tables::lent::Tables;
 use tables::refusal::RunRule;
-use tables::semantic::{symbol_kind, symbol_of};
+use tables::semantic::symbol_kind;
 
 // What a load or a store comes to.
-#[derive(Clone, Copy)]
+#[derive(Clone, Copy, Debug, PartialEq, Eq)]
 pub enum Access {
     Local(LocalNameId),
     Global(GlobalNameId),
@@ -42,83 +42,85 @@ pub fn find_upvalue(scope: &Scope, symbol: u32) -> Option<UpvalueNameId>
     scope.index_of(Table::Upvalues, symbol).map(UpvalueNameId)
 }
 
-// A global, or the rule that is broken where it is not one.
-fn global(scope: &Scope, symbol: u32, absent: RunRule) -> Result<Access, RunRule>
-    ensures { access_of result ≡ global_or absent (index_in scope.now Globals symbol) }
+// The symbol of a reference, or the rule that one out of range breaks.
+fn symbol_in(references: &[u32], reference: u32) -> Result<u32, RunRule>
+    ensures { result ≡ symbol_in references.now reference }
 {
-    let Some(id) = find_global(scope, symbol) else {
-        return Err(absent);
-    };
-    Ok(Access::Global(id))
+    references
+        .get(reference as usize)
+        .copied()
+        .ok_or(RunRule::Reference)
 }
 
-fn load_upvalue(scope: &Scope, symbol: u32) -> Result<Access, RunRule>
-    ensures { access_of result ≡ else_upvalue (index_in scope.now Upvalues symbol) (index_in scope.now Globals symbol) }
-{
-    let Some(id) = find_upvalue(scope, symbol) else {
-        return global(scope, symbol, RunRule::Load);
-    };
-    Ok(Access::Upvalue(id))
-}
-
-fn load_symbol(scope: &Scope, symbol: u32) -> Result<Access, RunRule>
-    ensures { access_of result ≡ load_found scope.now symbol }
-{
-    let Some(id) = find_local(scope, symbol) else {
-        return load_upvalue(scope, symbol);
-    };
-    Ok(Access::Local(id))
-}
-
-// What a load of a reference finds.
-pub fn load(references: &[u32], scope: &Scope, reference: u32) -> Result<Access, RunRule>
-    ensures { access_of result ≡ load_in references.now scope.now reference }
-{
-    let r = reference as usize;
-    if r < references.len() {
-        return load_symbol(scope, symbol_of(references, r));
-    }
-    Err(RunRule::Reference)
-}
-
-// The kind of a symbol: 1 is Global.
+// A symbol of no kind is not Global.
 pub fn is_global(symbols: &[u32], symbol: u32) -> bool
     ensures { result ≡ eqb (symbol_kind symbols.now symbol) 1 }
 {
-    let s = symbol as usize;
-    symbol_kind(symbols, s) == 1
+    SymbolKind::try_from(symbol_kind(symbols, symbol as usize)) == Ok(SymbolKind::Global)
 }
 
-fn store_local(scope: &Scope, symbol: u32) -> Result<Access, RunRule>
-    ensures { access_of result ≡ local_or Store (index_in scope.now Locals symbol) }
-{
-    let Some(id) = find_local(scope, symbol) else {
-        return Err(RunRule::Store);
-    };
-    Ok(Access::Local(id))
+// What a symbol is looked up in: the lent tables, and an owner's names as they are stamped.
+#[derive(Clone, Copy)]
+pub struct Lookup<'a> {
+    pub tables: &'a Tables<'a>,
+    pub scope: &'a Scope,
 }
 
-fn store_symbol(symbols: &[u32], scope: &Scope, symbol: u32) -> Result<Access, RunRule>
-    ensures { access_of result ≡ store_found symbols.now scope.now symbol }
-{
-    if is_global(symbols, symbol) {
-        return global(scope, symbol, RunRule::Store);
+impl Lookup<'_> {
+    ghost use Rattle.pool.specs.Names.{else_upvalue, global_or};
+
+    // A global, or the rule that is broken where it is not one.
+    fn global(&self, symbol: u32, absent: RunRule) -> Result<Access, RunRule>
+        ensures { access_of result ≡ global_or absent (index_in self.now.scope.now Globals symbol) }
+    {
+        let Some(id) = find_global(self.scope, symbol) else {
+            return Err(absent);
+        };
+        Ok(Access::Global(id))
     }
-    store_local(scope, symbol)
-}
 
-// What a store to a reference finds: the table of its symbol's kind alone is looked into.
-pub fn store(
-    symbols: &[u32],
-    references: &[u32],
-    scope: &Scope,
-    reference: u32,
-) -> Result<Access, RunRule>
-    ensures { access_of result ≡ store_in symbols.now references.now scope.now reference }
-{
-    let r = reference as usize;
-    if r < references.len() {
-        return store_symbol(symbols, scope, symbol_of(references, r));
+    fn load_upvalue(&self, symbol: u32) -> Result<Access, RunRule>
+        ensures { access_of result ≡ else_upvalue (index_in self.now.scope.now Upvalues symbol) (index_in self.now.scope.now Globals symbol) }
+    {
+        let Some(id) = find_upvalue(self.scope, symbol) else {
+            return self.global(symbol, RunRule::Load);
+        };
+        Ok(Access::Upvalue(id))
     }
-    Err(RunRule::Reference)
+
+    fn load_symbol(&self, symbol: u32) -> Result<Access, RunRule>
+        ensures { access_of result ≡ load_found self.now.scope.now symbol }
+    {
+        let Some(id) = find_local(self.scope, symbol) else {
+            return self.load_upvalue(symbol);
+        };
+        Ok(Access::Local(id))
+    }
+
+    // What a load of a reference finds.
+    #[tactic(auto, unfolding(crate::specs::Lookups::load_in))]
+    pub fn load(&self, reference: u32) -> Result<Access, RunRule>
+        ensures { access_of result ≡ load_in self.now.tables.now.references.now self.now.scope.now reference }
+    {
+        self.load_symbol(symbol_in(self.tables.references, reference)?)
+    }
+
+    fn store_symbol(&self, symbol: u32) -> Result<Access, RunRule>
+        ensures { access_of result ≡ store_found self.now.tables.now.symbols.now self.now.scope.now symbol }
+    {
+        if is_global(self.tables.symbols, symbol) {
+            return self.global(symbol, RunRule::Store);
+        }
+        find_local(self.scope, symbol)
+            .map(Access::Local)
+            .ok_or(RunRule::Store)
+    }
+
+    // What a store to a reference finds: the table of its symbol's kind alone is looked into.
+    #[tactic(auto, unfolding(crate::specs::Lookups::store_in))]
+    pub fn store(&self, reference: u32) -> Result<Access, RunRule>
+        ensures { access_of result ≡ store_in self.now.tables.now.symbols.now self.now.tables.now.references.now self.now.scope.now reference }
+    {
+        self.store_symbol(symbol_in(self.tables.references, reference)?)
+    }
 }

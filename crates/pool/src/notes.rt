@@ -2,7 +2,7 @@
 // opcode, or the number of the rule that refuses it, times 4,096, and its index. A record with no note has no reference and no earlier sibling.
 ghost use Rattle.std.specs.Prelude.{◌≡◌, ◌+◌, ◌*◌, ◌%◌, ◌≤◌};
 ghost use Rattle.pool.specs.NameWords.{access_of};
-ghost use Rattle.pool.specs.Notes.{earlier_noted, load_of, store_of, load_noted, store_noted, load_note, store_note, note_earlier, note_ident};
+ghost use Rattle.pool.specs.Notes.{word_at, earlier_noted, load_of, store_of, load_noted, store_noted, load_note, store_note, note_earlier, note_ident};
 
 use crate::lookup::Access;
 use opcode::index::{GlobalNameId, LocalNameId, UpvalueNameId};
@@ -32,13 +32,23 @@ const NO_LOAD: u32 = 11;
 
 const NO_STORE: u32 = 12;
 
+// The word of record r from this place on, 0 where there is none.
+fn word_at(notes: &Notes, from: usize, r: usize) -> u32
+    requires { from ≤ 8192 }
+    ensures { result ≡ word_at notes.now from r }
+{
+    if r < RECORDS { notes[from + r] } else { 0 }
+}
+
+// The earlier sibling of record r, 0 for none.
 pub fn earlier(notes: &Notes, r: usize) -> usize
     ensures { result ≡ earlier_noted notes.now r }
 {
-    if r < RECORDS { notes[r] as usize } else { 0 }
+    word_at(notes, 0, r) as usize
 }
 
 // What a noted load comes to.
+#[tactic(auto, unfolding(crate::specs::Notes::load_of))]
 fn load_access(note: u32) -> Result<Access, RunRule>
     ensures { access_of result ≡ load_of note }
 {
@@ -53,6 +63,7 @@ fn load_access(note: u32) -> Result<Access, RunRule>
 }
 
 // What a noted store comes to; never an upvalue.
+#[tactic(auto, unfolding(crate::specs::Notes::store_of))]
 fn store_access(note: u32) -> Result<Access, RunRule>
     ensures { access_of result ≡ store_of note }
 {
@@ -66,23 +77,19 @@ fn store_access(note: u32) -> Result<Access, RunRule>
 }
 
 // What a load of the Ident at record r comes to.
+#[tactic(auto, unfolding(crate::specs::Notes::load_noted, crate::specs::Notes::load_of))]
 pub fn load_of(notes: &Notes, r: usize) -> Result<Access, RunRule>
     ensures { access_of result ≡ load_noted notes.now r }
 {
-    if r < RECORDS {
-        return load_access(notes[LOADS + r]);
-    }
-    Err(RunRule::Reference)
+    load_access(word_at(notes, LOADS, r))
 }
 
 // What a store to the Ident at record r comes to.
+#[tactic(auto, unfolding(crate::specs::Notes::store_noted, crate::specs::Notes::store_of))]
 pub fn store_of(notes: &Notes, r: usize) -> Result<Access, RunRule>
     ensures { access_of result ≡ store_noted notes.now r }
 {
-    if r < RECORDS {
-        return store_access(notes[STORES + r]);
-    }
-    Err(RunRule::Reference)
+    store_access(word_at(notes, STORES, r))
 }
 
 fn word(code: u32, index: u32) -> u32
@@ -115,17 +122,17 @@ fn store_word(access: Result<Access, RunRule>) -> u32
 }
 
 // Record r is the earlier sibling of the one at sibling; 0 is an absent one.
+#[tactic(auto, unfolding(crate::specs::Notes::note_earlier))]
 pub fn note_earlier(notes: &mut Notes, sibling: usize, r: usize)
     ensures { notes.new ≡ note_earlier notes.old sibling r }
 {
-    if r < sibling {
-        if sibling < RECORDS {
-            notes[sibling] = r as u32;
-        }
+    if r < sibling && sibling < RECORDS {
+        notes[sibling] = r as u32;
     }
 }
 
 // What a load and a store of the Ident at record r come to.
+#[tactic(auto, unfolding(crate::specs::Notes::note_ident))]
 pub fn note_ident(
     notes: &mut Notes,
     r: usize,

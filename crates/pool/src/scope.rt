@@ -8,7 +8,7 @@ use crate::chain::Chain;
 pub const SYMBOLS: usize = 1024;
 
 // The tables of names.
-#[derive(Clone, Copy, PartialEq, Eq)]
+#[derive(Clone, Copy, Debug, PartialEq, Eq)]
 pub enum Table {
     Locals,
     Globals,
@@ -18,14 +18,14 @@ pub enum Table {
 // Where a symbol stands among an owner's names.
 #[derive(Clone, Copy)]
 pub struct Stamp {
-    pub owner: u32,
+    pub owner: u16,
     pub table: Table,
-    pub index: u32,
+    pub index: u16,
 }
 
 #[derive(Drop)]
 pub struct Scope {
-    pub owner: u32,
+    pub owner: u16,
     pub symbols: [Option<Stamp>; SYMBOLS],
     pub idents: Chain<4096>,
     pub inners: Chain<257>,
@@ -37,20 +37,17 @@ impl Scope {
     pub fn index_of(&self, table: Table, symbol: u32) -> Option<u32>
         ensures { result ≡ index_in self.now table symbol }
     {
-        let s = symbol as usize;
-        if s < SYMBOLS {
-            if let Some(stamp) = self.symbols[s] {
-                if stamp.owner == self.owner && stamp.table == table {
-                    return Some(stamp.index);
-                }
+        match self.symbols.get(symbol as usize) {
+            Some(Some(stamp)) if stamp.owner == self.owner && stamp.table == table => {
+                Some(u32::from(stamp.index))
             }
+            _ => None,
         }
-        None
     }
 
     // The symbol is at this place in a table of the current owner.
     #[tactic(auto, unfolding(crate::specs::Scope::stamped))]
-    pub fn stamp(&mut self, table: Table, symbol: u32, index: u32)
+    pub fn stamp(&mut self, table: Table, symbol: u32, index: u16)
         ensures { self.new ≡ stamped self.old table symbol index }
     {
         let s = symbol as usize;

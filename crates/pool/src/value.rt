@@ -5,7 +5,7 @@ ghost use Rattle.pool.specs.ConstValues.{words_of, lit_of};
 use crate::consts::{ConstWords, EFFECT};
 use opcode::index::FunctionId;
 
-#[derive(Clone, Copy)]
+#[derive(Clone, Copy, Debug, PartialEq, Eq)]
 pub enum ConstValue {
     Null,
     Bool(u32),
@@ -39,7 +39,7 @@ impl From<ConstValue> for ConstWords {
 }
 
 // The Rust's LitKind in a record's words: its detail, and the two that hold its value.
-#[derive(Clone, Copy)]
+#[derive(Clone, Copy, Debug, PartialEq, Eq)]
 pub struct LitKind {
     pub detail: u32,
     pub p: u32,

@@ -31,10 +31,7 @@ fn show(rt: &impl Print, text: &str) -> io::Result<()> {
         records: &mut records,
     };
     match read(text.as_bytes(), &mut lent) {
-        Err(unread) => {
-            let line = unread.line;
-            println!(rt; "input {line}")
-        }
+        Err(unread) => println!(rt; "input {}", unread.line),
         Ok(s) => {
             print_items(rt, &strings, s.strings)?;
             print_items(rt, &bytes, s.bytes)?;

@@ -1,34 +1,17 @@
 // A case in words: first its numbers, of which the first seven are the lengths of tables 1 to 7, then the words of these tables.
-ghost use Rattle.std.specs.Prelude.{◌≡◌, true, ◌+◌, ◌<◌, min, length, get_or, take, drop, is_some, IfOk, IfSome};
+ghost use Rattle.std.specs.Prelude.{◌≡◌, true, ◌+◌, ◌<◌, min, length, get_or, take, drop, is_some, IfOk, IfSome, ◌≤◌};
+ghost use Rattle.std.specs.Option.{SomeIff};
 ghost use Rattle.std.specs.Iterator.{at_most};
 ghost use Rattle.replay.specs.Case.{start as start_of, table as table_of, are_bytes, laid};
+ghost use Rattle.replay.specs.Cases.{Next};
 
 use std::alloc::{AllocError, Global};
+use tables::lent::Tables;
 use tables::semantic::entry;
-
-// The greatest byte.
-const BYTE: u32 = 255;
+use tables::slices::{front, rest};
 
 // A case has so many tables.
 const TABLES: usize = 7;
-
-// The first items, all of them where there are no more.
-pub fn front<T>(items: &[T], count: usize) -> &[T]
-    ensures { result.now ≡ take count items.now }
-{
-    &items[..count.min(items.len())]
-}
-
-// The items behind the first ones, none where there are no more.
-pub fn rest<T>(items: &[T], count: usize) -> &[T]
-    ensures { result.now ≡ drop count items.now }
-{
-    let end = items.len();
-    if count < end {
-        return &items[count..];
-    }
-    &items[end..]
-}
 
 // The words from a case's first one on, and how many numbers it has.
 #[derive(Clone, Copy)]
@@ -64,6 +47,27 @@ impl<'a> Case<'a> {
     {
         front(rest(self.words, self.start(k)), self.number(k))
     }
+
+    // Tables 1 to 7, with these bytes for table 2, whose words are no bytes yet.
+    pub fn tables(self, bytes: &'a [u8]) -> Tables<'a>
+        ensures strings { result.strings.now ≡ table_of self.entry.words.now self.entry.numbers 0 }
+        ensures bytes { result.bytes.now ≡ bytes.now }
+        ensures symbols { result.symbols.now ≡ table_of self.entry.words.now self.entry.numbers 2 }
+        ensures references { result.references.now ≡ table_of self.entry.words.now self.entry.numbers 3 }
+        ensures functions { result.functions.now ≡ table_of self.entry.words.now self.entry.numbers 4 }
+        ensures members { result.members.now ≡ table_of self.entry.words.now self.entry.numbers 5 }
+        ensures records { result.records.now ≡ table_of self.entry.words.now self.entry.numbers 6 }
+    {
+        Tables {
+            strings: self.table(0),
+            bytes,
+            symbols: self.table(2),
+            references: self.table(3),
+            functions: self.table(4),
+            members: self.table(5),
+            records: self.table(6),
+        }
+    }
 }
 
 // The cases that stand one behind the other in words.
@@ -88,6 +92,8 @@ impl<'a> Iterator for Cases<'a> {
 
     ghost remaining = { λ s. at_most (length s.words.now) };
 
+    ghost next_gives = { Next };
+
     fn next(&mut self) -> Option<Option<Case<'a>>> {
         if self.words.is_empty() {
             return None;
@@ -98,12 +104,15 @@ impl<'a> Iterator for Cases<'a> {
         };
         let end = case.start(TABLES);
         self.words = rest(self.words, end.max(1));
-        Some(if end <= case.words.len() {
-            Some(case)
-        } else {
-            None
-        })
+        Some((end <= case.words.len()).then_some(case))
     }
+}
+
+// A word as a byte, where it is one.
+fn byte(word: u32) -> Option<u8>
+    ensures { SomeIff result (word ≤ 255) word }
+{
+    u8::try_from(word).ok()
 }
 
 // The words as bytes, where each is one and there is room; else what is written is free.
@@ -111,15 +120,14 @@ pub fn narrow(words: &[u32], bytes: &mut [u8]) -> bool
     ensures answer { result ≡ are_bytes words.now (length bytes.old) }
     ensures written { result ≡ true → bytes.new ≡ laid words.now bytes.old }
 {
-    for k in 0..words.len() {
-        if bytes.len() <= k {
+    if bytes.len() < words.len() {
+        return false;
+    }
+    for (k, &word) in words.iter().enumerate() {
+        let Some(value) = byte(word) else {
             return false;
-        }
-        let value = words[k];
-        if BYTE < value {
-            return false;
-        }
-        bytes[k] = value as u8;
+        };
+        bytes[k] = value;
     }
     true
 }
@@ -132,13 +140,6 @@ pub fn narrowed(alloc: Global, words: &[u32], room: usize) -> Result<Option<Vec<
     if room < words.len() {
         return Ok(None);
     }
-    let mut bytes = Vec::with_capacity(alloc, words.len())?;
-    for word in words {
-        let value = *word;
-        if BYTE < value {
-            return Ok(None);
-        }
-        bytes.push(value as u8)?;
-    }
-    Ok(Some(bytes))
+    let mut bytes = vec![in alloc; 0u8; words.len()]?;
+    Ok(narrow(words, &mut bytes).then_some(bytes))
 }

@@ -26,11 +26,7 @@ pub fn words(alloc: Global, text: &str) -> Result<Option<Vec<u32>>, AllocError>
         };
         words.push(word)?;
     }
-    Ok(if words.len() <= MOST {
-        Some(words)
-    } else {
-        None
-    })
+    Ok((words.len() <= MOST).then_some(words))
 }
 
 // The words of the whole input; which they are no contract can say.

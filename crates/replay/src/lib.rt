@@ -4,3 +4,4 @@
 pub mod case;
 pub mod input;
 pub mod print;
+pub mod run;

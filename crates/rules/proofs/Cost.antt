@@ -81,6 +81,7 @@ use Rattle.rules.specs.Run.{
   number_of,
 }
 use Rattle.rules.specs.declared.Flow.{Flow}
+use Rattle.rules.specs.declared.error.ErrorKind.TheVariants.{ReturnOutsideFunction}
 use Rattle.rules.specs.declared.Flow.TheVariants.{Go, Cut, Refused}
 
 -- c added n times
@@ -210,7 +211,7 @@ module _ (R : Rates) where
 
   barred_within : (w : Words) (d : Bool) → Within (barred w d) 0
   unfolding barred
-  barred_within w true s = halt_within (Cut 2 w.start w.end) 0 s
+  barred_within w true s = halt_within (Cut ReturnOutsideFunction w.start w.end) 0 s
   barred_within w false s = omega arith
 
   sought_within : (r : ℕ) (u : Use) (i : ℕ) (x : Access) → Within (sought r u i x) R.on_marker

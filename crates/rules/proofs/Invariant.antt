@@ -40,8 +40,10 @@ use Rattle.rules.specs.Step.{
 use Rattle.rules.specs.Arms.{function_steps, stream_steps}
 use Rattle.rules.specs.Kinds.{steps}
 use Rattle.rules.specs.declared.Flow.{Flow}
+use Rattle.rules.specs.declared.error.ErrorKind.{ErrorKind}
 use Rattle.rules.specs.declared.Flow.TheVariants.{Go, Cut, Refused}
 use Rattle.rules.specs.Run.{
+  error_number,
   Lookup,
   Error,
   error,
@@ -117,8 +119,8 @@ with_stream x e = record { errors = e.errors; met = e.met; streams = x ∷ e.str
 pub record Invariant (o : Mode) (P : List Loop → Flow → Side → Type 0) (Q : ℕ → Words → Type 0) : Type 0 where
   pub opening : (x : Loop) (ls : List Loop) (e : Side) → P ls Go e → P (o.trim (x ∷ ls)) Go e
   pub closing : (ls : List Loop) (e : Side) → P ls Go e → P (drop1 ls) Go e
-  pub cutting : (k a b : ℕ) (ls : List Loop) (e : Side) → P ls Go e → P ls (Cut k a b) e
-  pub noting : (k a b : ℕ) (ls : List Loop) (e : Side) → P ls (Cut k a b) e → P ls Go (with_error (error k a b) e)
+  pub cutting : (k : ErrorKind) (a b : ℕ) (ls : List Loop) (e : Side) → P ls Go e → P ls (Cut k a b) e
+  pub noting : (k : ErrorKind) (a b : ℕ) (ls : List Loop) (e : Side) → P ls (Cut k a b) e → P ls Go (with_error (error (error_number k) a b) e)
   pub refusing : (x : RunRule) (r : ℕ) (w : Words) (ls : List Loop) (e : Side) → Q r w → P ls Go e → P ls (Refused x r) e
   pub losing : (x : RunRule) (ls : List Loop) (e : Side) → P ls Go e → P ls (Refused x 0) e
   pub starting : (ls : List Loop) (e : Side) → P ls Go e → P [] Go (with_function e)

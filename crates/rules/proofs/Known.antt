@@ -22,6 +22,7 @@ use Rattle.rules.specs.Run.{Lookup, Loop, loop, way_kind, label_of, local_code, 
 use Rattle.rules.specs.Run.{halt, begin, finish, way_out, outward, barred, sought, settle, kept, anew, returned, entered, nested, idle, full, act, named, exec}
 use Rattle.rules.specs.Run.{Visit, absent, child_visit, stream, visit_alg, visits_of, nothing, run, spot_at, number_of}
 use Rattle.rules.specs.declared.Flow.{Flow}
+use Rattle.rules.specs.declared.error.ErrorKind.TheVariants.{ReturnOutsideFunction}
 use Rattle.rules.specs.declared.Flow.TheVariants.{Go, Cut, Refused}
 use Rattle.rules.proofs.StepsOk.{function_only}
 use Rattle.rules.proofs.Tame.{no_function, no_name, pure}
@@ -154,7 +155,7 @@ out_keeps r w x = record { holds = λ s h. (way_holds r w x (loops s)).holds s h
 
 barred_keeps : (w : Words) (d : Bool) → Keeps (barred w d)
 unfolding barred
-barred_keeps w true = still_keeps (halt (Cut 2 w.start w.end)) (halt_still (Cut 2 w.start w.end))
+barred_keeps w true = still_keeps (halt (Cut ReturnOutsideFunction w.start w.end)) (halt_still (Cut ReturnOutsideFunction w.start w.end))
 barred_keeps w false = record { holds = λ s h. h; more = λ s. omega arith }
 
 sought_keeps : (r : ℕ) (u : Use) (i : ℕ) (x : Access) → Keeps (sought r u i x)

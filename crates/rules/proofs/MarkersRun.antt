@@ -19,6 +19,7 @@ use Rattle.rules.specs.Arms.{stream_steps, method_steps, call_steps, target_step
 use Rattle.rules.specs.Kinds.{steps, steps_of, kinds}
 use Rattle.rules.specs.MarkerCount.{step_markers, list_markers, child_markers, markers_in, markers_counted}
 use Rattle.rules.specs.declared.Flow.{Flow}
+use Rattle.rules.specs.declared.error.ErrorKind.{ErrorKind}
 use Rattle.rules.specs.declared.Flow.TheVariants.{Go, Cut, Refused}
 use Rattle.rules.specs.Run.{Lookup, Loop, loop, Stream, Side, State, st, marks, side, emit, bump, halt, begin, finish, way_kind, outward, barred, number_of, spot_at}
 use Rattle.rules.specs.Run.{sought, settle, kept, anew, returned, entered, nested, idle, keeping, full, act, exec, child_visit, stream, visits_of, nothing, run}
@@ -58,7 +59,7 @@ module _ (P : Stream → Type 0) where
   halt_told f (st m l ls os (Refused n r) e) c q = (omega arith, q)
 
   -- an error or a refusal does not end clean
-  cut_told : (k a b n : ℕ) → Tells (halt (Cut k a b)) n
+  cut_told : (k : ErrorKind) (a b n : ℕ) → Tells (halt (Cut k a b)) n
   unfolding halt
   cut_told k a b n (st m l ls os Go e) c q = absurd (cut_go k a b c.0)
   cut_told k a b n (st m l ls os (Cut k' a' b') e) c q = absurd (cut_go k' a' b' c.0)

@@ -37,6 +37,8 @@ use Rattle.rules.specs.Step.{
   inner,
 }
 use Rattle.rules.specs.declared.Flow.{Flow}
+use Rattle.rules.specs.declared.error.ErrorKind.{ErrorKind}
+use Rattle.rules.specs.declared.error.ErrorKind.TheVariants.{ReturnOutsideFunction}
 use Rattle.rules.specs.declared.Flow.TheVariants.{Go, Cut, Refused}
 use Rattle.rules.specs.Run.{
   Lookup,
@@ -61,6 +63,7 @@ use Rattle.rules.specs.Run.{
   drop1,
   finish,
   way_kind,
+  error_number,
   way_out,
   outward,
   barred,
@@ -106,7 +109,7 @@ Clean-back v = (s : State) → Clean (v s) → Clean s
 pub writes_clean : (v : State → State) (g : Seg) → Writes v g → Clean-back v
 writes_clean v g h s c = rw (h s c) at c
 
-pub cut_go : (k a b : ℕ) → Cut k a b ≡ Go → ⊥
+pub cut_go : (k : ErrorKind) (a b : ℕ) → Cut k a b ≡ Go → ⊥
 cut_go k a b q = let z : ◌≡◌ {A = ℕ} 0 1 = cc in omega arith
 
 pub refused_go : (x : RunRule) (r : ℕ) → Refused x r ≡ Go → ⊥
@@ -168,7 +171,7 @@ sought_clean r u i (missing x) s c = halt_clean _ s c
 -- settling keeps an error, so a clean end was not settled
 pub settle_same : (s : State) → Clean (settle s) → settle s ≡ s
 settle_same (st m l ls os Go e) c = refl
-settle_same (st m l ls os (Cut k a b) e) c = absurd (kept_none (error k a b) e.errors c.1)
+settle_same (st m l ls os (Cut k a b) e) c = absurd (kept_none (error (error_number k) a b) e.errors c.1)
 settle_same (st m l ls os (Refused n r) e) c = refl
 
 pub settle_clean : Clean-back settle
@@ -238,7 +241,7 @@ keeping_same keep v m l ls os e c = settle_same (v (st m l ls os Go e)) c
 barred_same : (w : Words) (b : Bool) (m : List Mark) (l : ℕ) (ls os : List Loop) (e : Side) → Clean (barred w b (st m l ls os Go e))
     → barred w b (st m l ls os Go e) ≡ st m l ls os Go e
 unfolding barred halt
-barred_same w true m l ls os e c = absurd (cut_go 2 w.start w.end c.0)
+barred_same w true m l ls os e c = absurd (cut_go ReturnOutsideFunction w.start w.end c.0)
 barred_same w false m l ls os e c = refl
 
 sought_same : (r : ℕ) (u : Use) (i : ℕ) (x : Access) (m : List Mark) (l : ℕ) (ls os : List Loop) (e : Side) → Clean (sought r u i x (st m l ls os Go e))

@@ -33,10 +33,18 @@ use Rattle.rules.specs.Step.{
 use Rattle.rules.specs.Arms.{stream_steps}
 use Rattle.rules.specs.Kinds.{steps}
 use Rattle.rules.specs.declared.StackCode.{StackCode}
+use Rattle.rules.specs.declared.error.ErrorKind.{ErrorKind}
+use Rattle.rules.specs.declared.error.ErrorKind.TheVariants.{BreakOutsideLoop, ContinueOutsideLoop, ReturnOutsideFunction}
 use Rattle.rules.specs.declared.Flow.{Flow}
 use Rattle.rules.specs.declared.Flow.TheVariants.{Go, Cut, Refused}
 
--- an error: its kind ("kind 0 Break, 1 Continue, 2 Return"), start and end
+-- "kind 0 Break, 1 Continue, 2 Return"
+abbrev pub error_number : ErrorKind → ℕ
+error_number BreakOutsideLoop = 0
+error_number ContinueOutsideLoop = 1
+error_number ReturnOutsideFunction = 2
+
+-- an error: the number of its kind, start and end
 pub data Error : Type 0 where
   error : ℕ → ℕ → ℕ → Error
 
@@ -114,9 +122,9 @@ finish (st m l ls os Go e) = st m l (drop1 ls) os Go e
 finish (st m l ls os (Cut k a b) e) = st m l ls os (Cut k a b) e
 finish (st m l ls os (Refused n r) e) = st m l ls os (Refused n r) e
 
-abbrev pub way_kind : Way → ℕ
-way_kind Break = 0
-way_kind Continue = 1
+abbrev pub way_kind : Way → ErrorKind
+way_kind Break = BreakOutsideLoop
+way_kind Continue = ContinueOutsideLoop
 
 abbrev pub label_of : Way → ℕ → ℕ → ℕ
 label_of Break c b = b
@@ -132,7 +140,7 @@ outward r w x s = way_out r w x (loops s) s
 
 -- a Return in a Do is an error
 unfoldable pub barred : Words → Bool → State → State
-barred w inDo s = cond inDo (halt (Cut 2 w.start w.end) s) s
+barred w inDo s = cond inDo (halt (Cut ReturnOutsideFunction w.start w.end) s) s
 
 -- the record at a path from the first of some trees
 pub data Spot : Type 0 where
@@ -190,7 +198,7 @@ sought r u i (missing x) s = halt (Refused x i) s
 -- a block keeps an error, and the run goes on
 abbrev pub settle : State → State
 settle (st m l ls os Go e) = st m l ls os Go e
-settle (st m l ls os (Cut k a b) e) = st m l ls os Go (record { errors = error k a b ∷ e.errors; met = e.met; streams = e.streams })
+settle (st m l ls os (Cut k a b) e) = st m l ls os Go (record { errors = error (error_number k) a b ∷ e.errors; met = e.met; streams = e.streams })
 settle (st m l ls os (Refused n r) e) = st m l ls os (Refused n r) e
 
 unfoldable pub kept : (State → State) → State → State

@@ -3,18 +3,23 @@
 
 pub mod error;
 
+use error::ErrorKind;
 use tables::refusal::RunRule;
 
-// How a run stands: going on, cut short by an error (kind, start, end), or refused (rule, record).
-#[derive(Clone, Copy)]
+// How a run stands: going on, cut short by an error, or refused (rule, record).
+#[derive(Clone, Copy, Debug, PartialEq, Eq)]
 pub enum Flow {
     Go,
-    Cut(u32, u32, u32),
+    Cut {
+        kind: ErrorKind,
+        start: u32,
+        end: u32,
+    },
     Refused(RunRule, usize),
 }
 
 // Document 02, job 11: "The caller names the code, 1 or 2".
-#[derive(Clone, Copy)]
+#[derive(Clone, Copy, Debug, PartialEq, Eq)]
 pub enum StackCode {
     Code1,
     Code2,

@@ -6,16 +6,16 @@ use mathlib.Core.Logic.{inl, inr}
 use Prim.Native.Nat.{ℕ, zero, suc, ◌+◌, ◌-◌, ◌≤◌, ◌<◌, min}
 use native.Mathlib.Omega.{arith}
 use native.Mathlib.Decide.{ℕ_discrete}
-use lib.ListN.{length, get_or, set, replicate, length-set, length-replicate, get_or-replicate}
-use lib.Seq.{get_or-set_same, get_or-set_other}
+use lib.ListN.{length, get_or, set, replicate, length-set, length-replicate, get_or-replicate, get_or-map}
+use lib.Seq.{get_or-set_same, get_or-set_other, map-set}
+use lib.LanesLaws.{map-replicate}
+use Rattle.tables.specs.declared.numbering.Count.{Count}
 use Rattle.tables.specs.declared.numbering.Manner.{Manner}
 use Rattle.tables.specs.declared.numbering.Manner.TheVariants.{Stored, RightFirst, RightThenBack}
-use lib.Dec.{eqb}
-use borrow.Author.Tests.{eq-eqb, ne_eqb}
 use Rattle.tables.specs.Record.{word, words, size}
 use Rattle.tables.specs.Forest.{Forest, none, first, next, forest}
 use Rattle.tables.specs.Numbering.{is_left, manner}
-use Rattle.tables.specs.Counting.{plus, own, shift, offset, tally, tally_left, Tallied}
+use Rattle.tables.specs.Counting.{plus, own, shift, offset, blank, alls, lefts, tally, tally_left, Tallied}
 use Rattle.tables.proofs.ForestLaws.{Onward, first_onward, next_onward, forest_absent, forest_record}
 
 module _ (m : Manner) (b : Bool) (t l t' l' l'' : ℕ) where
@@ -38,6 +38,14 @@ module _ (m : Manner) (b : Bool) (t l t' l' l'' : ℕ) where
   pub shift_back_right : (r y x : ℕ) → m ≡ RightThenBack → b ≡ false → r ≡ t - l → y ≡ t' - l' → x ≡ r - y → x ≡ shift m b t l t' l' l''
   unfolding shift
   shift_back_right r y x e f u v p = rw (e, f, p, u, v) refl
+
+-- the counts of an array are one by one those of its two lists
+module _ (counts : List Count) (x : ℕ) where
+  pub alls_at : (get_or counts x blank).all ≡ get_or (alls counts) x 0
+  alls_at = sym (get_or-map (λ c. c.all) counts x blank)
+
+  pub lefts_at : (get_or counts x blank).left ≡ get_or (lefts counts) x 0
+  lefts_at = sym (get_or-map (λ c. c.left) counts x blank)
 
 -- both links of a record fit an array of 4096
 link_small : (recs : List ℕ) (r l : ℕ) → Onward recs r l → size recs ≤ 4096 → l < 4096
@@ -116,38 +124,51 @@ unfolding tally_left
 left_record recs zero h = absurd (omega arith)
 left_record recs (suc r) h = rw (forest_record recs r) refl
 
-module _ (recs : List ℕ) (few : size recs ≤ 4096) (a : List ℕ) (i f g o : ℕ) (p : f ≡ first recs (i - 1)) (q : g ≡ next recs (i - 1)) (u : o ≡ own (words recs (i - 1))) where
-  -- one turn of the pass from the last record to the first
-  pub turn_all : (x y : ℕ) → 1 < i → i ≤ size recs → Down tally recs i a → x ≡ plus o (get_or a f 0) → y ≡ plus x (get_or a g 0) → Down tally recs (i - 1) (set a (i - 1) y)
-  turn_all x y h s d v w =
-      down_more tally recs a i y d h (omega arith)
+module _ (recs : List ℕ) (few : size recs ≤ 4096) (counts : List Count) (i f g o x : ℕ) (h : 1 < i) (s : i ≤ size recs)
+    (p : f ≡ first recs (i - 1)) (q : g ≡ next recs (i - 1)) (u : o ≡ own (words recs (i - 1)))
+    (d : Down tally recs i (alls counts)) (v : x ≡ plus o (get_or counts f blank).all) where
+  below : get_or (alls counts) f 0 ≡ min 4096 (tally (forest recs (first recs (i - 1))))
+  below = ap (λ z. get_or (alls counts) z 0) p ∙ down_link tally recs tally_none (alls counts) i (i - 1) _ d (omega arith) (first_onward recs (i - 1))
+
+  -- one turn of the pass from the last record to the first, x being what the record has with what is below it
+  pub turn_all : (c : Count) → c.all ≡ plus x (get_or counts g blank).all → Down tally recs (i - 1) (alls (set counts (i - 1) c))
+  turn_all c w =
+      rw (map-set (λ c. c.all) counts (i - 1) c)
+      (down_more tally recs (alls counts) i c.all d h (omega arith)
       (omega (
         arith,
         tally_record recs (i - 1) (omega arith),
-        ap (λ z. get_or a z 0) p,
-        ap (λ z. get_or a z 0) q,
-        down_link tally recs tally_none a i (i - 1) _ d (omega arith) (first_onward recs (i - 1)),
-        down_link tally recs tally_none a i (i - 1) _ d (omega arith) (next_onward recs (i - 1)),
-      ))
+        alls_at counts f,
+        alls_at counts g,
+        below,
+        ap (λ z. get_or (alls counts) z 0) q,
+        down_link tally recs tally_none (alls counts) i (i - 1) _ d (omega arith) (next_onward recs (i - 1)),
+      )))
 
-  -- the same turn for what is in Lefts, x being what the record has with what is below it
-  module _ (all : List ℕ) (x y k : ℕ) (h : 1 < i) (s : i ≤ size recs) (e : Down tally recs i all) (d : Down tally_left recs i a) (v : x ≡ plus o (get_or all f 0))
-      (w : k ≡ word recs (i - 1) 0) where
-    later : get_or a g 0 ≡ min 4096 (tally_left (forest recs (next recs (i - 1))))
-    later = ap (λ z. get_or a z 0) q ∙ down_link tally_left recs left_none a i (i - 1) _ d (omega arith) (next_onward recs (i - 1))
-
-    below : get_or all f 0 ≡ min 4096 (tally (forest recs (first recs (i - 1))))
-    below = ap (λ z. get_or all z 0) p ∙ down_link tally recs tally_none all i (i - 1) _ e (omega arith) (first_onward recs (i - 1))
+  -- the same turn for what is in Lefts
+  module _ (e : Down tally_left recs i (lefts counts)) (c : Count) where
+    later : get_or (lefts counts) g 0 ≡ min 4096 (tally_left (forest recs (next recs (i - 1))))
+    later = ap (λ z. get_or (lefts counts) z 0) q ∙ down_link tally_left recs left_none (lefts counts) i (i - 1) _ e (omega arith) (next_onward recs (i - 1))
 
     record_is : (b : Bool) → is_left (words recs (i - 1)) ≡ b
         → tally_left (forest recs (i - 1)) ≡ cond b (own (words recs (i - 1)) + tally (forest recs (first recs (i - 1)))) 0 + tally_left (forest recs (next recs (i - 1)))
     record_is b z = left_record recs (i - 1) (omega arith) ∙ rw z refl
 
-    pub turn_left : k ≡ 34 → y ≡ plus x (get_or a g 0) → Down tally_left recs (i - 1) (set a (i - 1) y)
-    turn_left c z = down_more tally_left recs a i y d h (omega arith) (omega (arith, below, later, record_is true (eq-eqb _ 34 (sym w ∙ c))))
+    written : c.left ≡ min 4096 (tally_left (forest recs (i - 1))) → Down tally_left recs (i - 1) (lefts (set counts (i - 1) c))
+    written z = rw (map-set (λ c. c.left) counts (i - 1) c) (down_more tally_left recs (lefts counts) i c.left e h (omega arith) z)
 
-    pub turn_other : (k ≡ 34 → ⊥) → y ≡ get_or a g 0 → Down tally_left recs (i - 1) (set a (i - 1) y)
-    turn_other c z = down_more tally_left recs a i y d h (omega arith) (omega (arith, later, record_is false (ne_eqb _ 34 (λ u. c (w ∙ u)))))
+    pub turn_left : is_left (words recs (i - 1)) ≡ true → c.left ≡ plus x (get_or counts g blank).left → Down tally_left recs (i - 1) (lefts (set counts (i - 1) c))
+    turn_left t z = written (omega (arith, alls_at counts f, lefts_at counts g, below, later, record_is true t))
+
+    pub turn_other : is_left (words recs (i - 1)) ≡ false → c.left ≡ (get_or counts g blank).left → Down tally_left recs (i - 1) (lefts (set counts (i - 1) c))
+    turn_other t z = written (omega (arith, lefts_at counts g, later, record_is false t))
+
+-- the pass begins with blank counts
+pub alls_start : (recs : List ℕ) (counts : List Count) (i : ℕ) → counts ≡ replicate 4096 blank → i ≡ size recs → Down tally recs i (alls counts)
+alls_start recs counts i e p = down_start tally recs (alls counts) i (ap alls e ∙ map-replicate (λ c. c.all) 4096 blank) p
+
+pub lefts_start : (recs : List ℕ) (counts : List Count) (i : ℕ) → counts ≡ replicate 4096 blank → i ≡ size recs → Down tally_left recs i (lefts counts)
+lefts_start recs counts i e p = down_start tally_left recs (lefts counts) i (ap lefts e ∙ map-replicate (λ c. c.left) 4096 blank) p
 
 pub all_end : (recs a : List ℕ) (i : ℕ) → Down tally recs i a → i ≤ 1 → Tallied tally recs a
 all_end recs a i d h = down_end tally recs tally_none a i d h
@@ -160,9 +181,11 @@ unfolding offset
 offset_zero recs all left up zero e = refl
 offset_zero recs all left up (suc x) e = absurd (omega arith)
 
-pub offset_some : (recs all left up : List ℕ) (x p k g kind own-kind r : ℕ) (m : Manner) → (x ≡ 0 → ⊥) → p ≡ get_or up x 0 → k ≡ first recs p → g ≡ next recs x
-    → kind ≡ word recs p 0 → m ≡ manner kind → own-kind ≡ word recs x 0
-    → r ≡ shift m (eqb own-kind 34) (get_or all k 0) (get_or left k 0) (get_or all x 0) (get_or left x 0) (get_or left g 0) → r ≡ offset recs all left up x
+pub offset_some : (recs up : List ℕ) (counts : List Count) (x p k g r : ℕ) (m : Manner) (own-left : Bool) → (x ≡ 0 → ⊥) → p ≡ get_or up x 0 → k ≡ first recs p → g ≡ next recs x
+    → m ≡ manner (word recs p 0) → own-left ≡ is_left (words recs x)
+    → r ≡ shift m own-left (get_or counts k blank).all (get_or counts k blank).left (get_or counts x blank).all (get_or counts x blank).left (get_or counts g blank).left
+    → r ≡ offset recs (alls counts) (lefts counts) up x
 unfolding offset
-offset_some recs all left up zero p k g kind own-kind r m d a b e f h i j = absurd (d refl)
-offset_some recs all left up (suc x) p k g kind own-kind r m d a b e f h i j = j ∙ rw (h, f, b, a, e, i) refl
+offset_some recs up counts zero p k g r m b d q e f h i j = absurd (d refl)
+offset_some recs up counts (suc x) p k g r m b d q e f h i j =
+    j ∙ rw (h, i, f, e, q, alls_at counts _, lefts_at counts _, alls_at counts (suc x), lefts_at counts (suc x), lefts_at counts _) refl

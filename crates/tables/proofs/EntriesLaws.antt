@@ -7,7 +7,7 @@ use Prim.Native.Nat.{ℕ, zero, suc, ◌+◌, ◌-◌, ◌^◌, ◌≤◌, ◌<�
 use native.Mathlib.Omega.{arith}
 use lib.ListN.{length, get_or, length-take, length-drop}
 use lib.Dec.{leb, ltb, eqb}
-use borrow.Author.Tests.{le-leb, lt-leb, eq-eqb, ne_eqb, leb-false, ltb-true, ltb-false, eqb-true, eqb-false, not-false}
+use borrow.Author.Tests.{le-leb, lt-leb, eq-eqb, leb-false, ltb-true, ltb-false, eqb-true, eqb-false, not-false}
 use Rattle.std.specs.List.{find, list_any}
 use Rattle.std.specs.Prelude.{Option, None, Some}
 use Rattle.tables.specs.Place.{broken_from, broken}
@@ -43,16 +43,6 @@ any_found bad (i ∷ places) = go (bad i) (any_found bad places)
 module _ (functions members : List ℕ) (n sum : ℕ) (last : n ≡ pairs functions) (added : sum ≡ min (share_start functions n) (2 ^ 63)) (short : length members < 2 ^ 63) where
   summed : sum ≡ min (share_start functions (pairs functions)) (2 ^ 63)
   summed = added ∙ ap (λ (k : ℕ). min (share_start functions k) (2 ^ 63)) last
-
-  pub counts_right : sum ≡ length members → None ≡ counts_broken functions members
-  counts_right e =
-      ap (λ (t : Bool). cond t None (Some (pairs functions))) (sym (eq-eqb (share_start functions (pairs functions)) (length members) (omega (arith, summed))))
-
-  pub counts_wrong : (sum ≡ length members → ⊥) → Some n ≡ counts_broken functions members
-  counts_wrong ne =
-      ap Some last
-      ∙ ap (λ (t : Bool). cond t None (Some (pairs functions)))
-      (sym (ne_eqb (share_start functions (pairs functions)) (length members) (λ q. ne (omega (arith, summed)))))
 
 -- a list equals itself, element by element
 pub same_refl : (a : List ℕ) → same_list a a ≡ true

@@ -7,6 +7,7 @@ pub mod EntriesLaws
 pub mod SeenLaws
 pub mod EntriesCases
 pub mod LinksLaws
+pub mod KindLaws
 pub mod ServeLaws
 pub mod ChildrenLaws
 pub mod NamingLaws

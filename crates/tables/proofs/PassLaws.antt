@@ -286,7 +286,8 @@ broken_same bad bad' n h = alike_from bad bad' 0 n (λ k p q. h k (omega arith))
 abbrev bad : List ℕ → List ℕ → ℕ → Bool
 bad recs funs r = (eqb r 0 && uneven recs funs) || misnumbered recs funs r
 
-module _ (recs funs all : List ℕ) (j : Joined recs) (few : size recs ≤ 4096) (counts : Tallied tally recs all) (t : ℕ) (e : t ≡ plus (own (words recs 0)) (get_or all (first recs 0) 0)) where
+module _ (recs funs all : List ℕ) (j : Joined recs) (few : size recs ≤ 4096) (counts : Tallied tally recs all) (t : ℕ)
+    (e : t ≡ plus (own (words recs 0)) (get_or all (first recs 0) 0)) where
   -- table 5 has another length
   pub numbering_uneven : (length funs / 2 ≡ t → ⊥) → Some 0 ≡ numbering recs funs
   numbering_uneven d = sym (sym (rest_start (bad recs funs) (size recs)) ∙ rest_at (bad recs funs) (size recs) 0 j.some (rw (ne_eqb _ _ other) refl))

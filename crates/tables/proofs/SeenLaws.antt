@@ -1,13 +1,13 @@
 -- The last place of a key, as a search sees it, and the chains of strings by hash. Assumes nothing.
 use mathlib.Core.Path.{◌≡◌, refl, sym, ap, subst, ◌∙◌}
 use mathlib.Core.Bool.{Bool, true, false, cond, ◌&&◌, true≢false}
-use mathlib.Core.List.{List, [], ◌∷◌}
+use mathlib.Core.List.{List, [], ◌∷◌, map}
 use mathlib.Core.Logic.{◌⊎◌, inl, inr}
 use Prim.Native.Nat.{ℕ, zero, suc, ◌+◌, ◌≤◌, ◌<◌}
 use native.Mathlib.Numerals.{add-one}
 use native.Mathlib.Omega.{arith}
 use native.Mathlib.Decide.{ℕ_discrete}
-use lib.ListN.{length, get_or, set, replicate, length-set, length-replicate, get_or-replicate}
+use lib.ListN.{length, get_or, set, replicate, length-set, length-replicate, get_or-replicate, get_or-map}
 use lib.Seq.{get_or-set_same, get_or-set_other, set_out}
 use lib.Dec.{ltb, eqb}
 use borrow.Author.Tests.{le-ltb, lt-ltb, eq-eqb, ne_eqb, eqb-true, eqb-false}
@@ -15,7 +15,8 @@ use Rattle.std.specs.Prelude.{Option, None, Some}
 use Rattle.tables.specs.Semantic.{text_of}
 use Rattle.tables.specs.Entries.{or_else, found, same_list, same_string, equal_earlier, twice}
 use Rattle.tables.specs.declared.strings.Chains.{Chains}
-use Rattle.tables.specs.Seen.{last, hash, hash_at, bucket, bucket_at, Chained, symbol_at, Stamped}
+use Rattle.tables.specs.declared.strings.Link.{Link}
+use Rattle.tables.specs.Seen.{last, hash, hash_at, bucket, bucket_at, hashes, nexts, Chained, symbol_at, Stamped}
 use Rattle.tables.proofs.PlaceLaws.{rest, rest_on, rest_at, rest_end, rest_start}
 use Rattle.tables.proofs.EntriesLaws.{rest_cut}
 use Rattle.tables.proofs.SemanticLaws.{split}
@@ -145,6 +146,17 @@ other_hash strings bytes e s d = go (same_string strings bytes e s) refl
     go true q = absurd (d (same_hash strings bytes e s q))
     go false q = sym q
 
+-- a link of no string; the links of an array are one by one those of its two lists
+abbrev blank : Link
+blank = record { hash = 0; next = 0 }
+
+module _ (links : List Link) (e : ℕ) where
+  hashes_at : (get_or links e blank).hash ≡ get_or (hashes links) e 0
+  hashes_at = sym (get_or-map (λ l. l.hash) links e blank)
+
+  nexts_at : (get_or links e blank).next ≡ get_or (nexts links) e 0
+  nexts_at = sym (get_or-map (λ l. l.next) links e blank)
+
 -- the strings before place c of a chain are all that is left to compare with string s
 module _ (strings bytes : List ℕ) (s : ℕ) where
   abbrev key : ℕ → ℕ
@@ -176,17 +188,20 @@ module _ (strings bytes : List ℕ) (s : ℕ) where
       before : e < s
       before = omega (arith, w.within)
 
-      pub walk_less : (d : ℕ) → d ≡ get_or chains.next e 0 → d < c
-      walk_less d q = omega (arith, chained.older e before, last_within key (key e) e)
+      older : (get_or chains.links e blank).next ≡ last key (key e) e
+      older = nexts_at chains.links e ∙ chained.older e before
 
-      module _ (t : Bool) (told : get_or chains.hashes e 0 ≡ hash_at strings bytes e → h ≡ hash_at strings bytes s → t ≡ equals e) where
+      pub walk_less : (d : ℕ) → d ≡ (get_or chains.links e blank).next → d < c
+      walk_less d q = omega (arith, older, last_within key (key e) e)
+
+      module _ (t : Bool) (told : (get_or chains.links e blank).hash ≡ hash_at strings bytes e → t ≡ equals e) where
         right : t ≡ equals e
-        right = told (chained.hashed e before) own
+        right = told (hashes_at chains.links e ∙ chained.hashed e before)
 
-        pub walk_on : t ≡ false → (d : ℕ) → d ≡ get_or chains.next e 0 → Walk d
+        pub walk_on : t ≡ false → (d : ℕ) → d ≡ (get_or chains.links e blank).next → Walk d
         walk_on f d q =
             along e d (omega (arith, before)) (sym (ap (λ x. found (rest equals x 0)) p ∙ any_miss equals 0 e (omega arith) (sym right ∙ f)) ∙ w.left)
-            (q ∙ chained.older e before ∙ ap (λ x. last key x e) (w.bucketed e p))
+            (q ∙ older ∙ ap (λ x. last key x e) (w.bucketed e p))
 
         pub walk_hit : t ≡ true → true ≡ equal_earlier strings bytes s
         walk_hit f = sym (ap (λ x. found (rest equals x 0)) p ∙ any_hit equals 0 e (omega arith) (sym right ∙ f)) ∙ w.left
@@ -196,45 +211,44 @@ module _ (strings bytes : List ℕ) (s : ℕ) where
 
 -- one string more in the chains
 module _ (key : ℕ → ℕ) where
-  pub chained_none : Chained key (record { hashes = replicate 1024 0; heads = replicate 1024 0; next = replicate 1024 0 }) 0
+  pub chained_none : Chained key (record { links = replicate 1024 blank; heads = replicate 1024 0 }) 0
   unfolding last
   chained_none = record {
-    hashes_long = length-replicate {A = ℕ} 1024 0;
+    links_long = length-replicate {A = Link} 1024 blank;
     heads_long = length-replicate {A = ℕ} 1024 0;
-    next_long = length-replicate {A = ℕ} 1024 0;
     hashed = λ e h. absurd (omega arith);
     newest = λ b h. get_or-replicate 1024 b 0 0 (omega arith);
     older = λ e h. absurd (omega arith);
   }
 
   module _ (chains : Chains) (s h b : ℕ) (few : s < 1024) (e : h ≡ key s) (q : b ≡ bucket h) (before : Chained key chains s) where
-    abbrev hashes : List ℕ
-    hashes = chains.hashes
+    abbrev links : List Link
+    links = chains.links
 
     abbrev heads : List ℕ
     heads = chains.heads
 
-    abbrev next : List ℕ
-    next = chains.next
+    abbrev link : Link
+    link = record { hash = h; next = get_or heads b 0 }
 
     own : b ≡ bucket_at key s
     own = q ∙ ap bucket e
 
-    put : (a : List ℕ) (v : ℕ) (f : ℕ → ℕ) → length a ≡ 1024 → v ≡ f s → ((x : ℕ) → x < s → get_or a x 0 ≡ f x) → (x : ℕ) → x < s + 1 → get_or (set a s v) x 0 ≡ f x
-    put a v f n p g x l = go (ℕ_discrete x s)
+    -- a field of the link that is put
+    put : (field : Link → ℕ) (f : ℕ → ℕ) → field link ≡ f s → ((x : ℕ) → x < s → get_or (map field links) x (field blank) ≡ f x)
+        → (x : ℕ) → x < s + 1 → get_or (map field (set links s link)) x (field blank) ≡ f x
+    put field f p g x l = get_or-map field (set links s link) x blank ∙ go (ℕ_discrete x s)
       where
-        go : Dec (x ≡ s) → get_or (set a s v) x 0 ≡ f x
-        go (yes z) = rw z (get_or-set_same a s v 0 (omega arith) ∙ p)
-        go (no d) = get_or-set_other a s x v 0 d ∙ g x (omega arith)
+        go : Dec (x ≡ s) → field (get_or (set links s link) x blank) ≡ f x
+        go (yes z) = rw z (ap field (get_or-set_same links s link blank (omega (arith, before.links_long))) ∙ p)
+        go (no d) = ap field (get_or-set_other links s x link blank d) ∙ sym (get_or-map field links x blank) ∙ g x (omega arith)
 
-    pub chained_more : Chained key (record { hashes = set hashes s h; heads = set heads b (s + 1); next = set next s (get_or heads b 0) }) (s + 1)
+    pub chained_more : Chained key (record { links = set links s link; heads = set heads b (s + 1) }) (s + 1)
     chained_more = record {
-      hashes_long = length-set hashes s h ∙ before.hashes_long;
+      links_long = length-set links s link ∙ before.links_long;
       heads_long = length-set heads b (s + 1) ∙ before.heads_long;
-      next_long = length-set next s (get_or heads b 0) ∙ before.next_long;
-      hashed = put hashes h key before.hashes_long e before.hashed;
+      hashed = put (λ l. l.hash) key e before.hashed;
       newest = λ x l. last_put (bucket_at key) heads b s x own (omega (arith, before.heads_long)) (before.newest x l);
       older =
-          put next (get_or heads b 0) (λ x. last (bucket_at key) (bucket_at key x) x) before.next_long
-          (before.newest b (omega arith) ∙ ap (λ x. last (bucket_at key) x s) own) before.older;
+          put (λ l. l.next) (λ x. last (bucket_at key) (bucket_at key x) x) (before.newest b (omega arith) ∙ ap (λ x. last (bucket_at key) x s) own) before.older;
     }

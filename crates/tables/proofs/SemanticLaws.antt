@@ -1,13 +1,13 @@
 -- Parts of a list, prefix sums of counts, and what they say of strings and of shares. Assumes nothing.
 use mathlib.Core.Path.{◌≡◌, refl, sym, ap, ◌∙◌}
 use mathlib.Core.Bool.{Bool, true, false}
-use mathlib.Core.List.{List, [], ◌∷◌}
+use mathlib.Core.List.{List}
 use mathlib.Core.Logic.{◌⊎◌, inl, inr}
 use Prim.Native.Nat.{ℕ, zero, suc, ◌+◌, ◌*◌, ◌-◌, ◌≤◌, ◌<◌, min}
 use native.Mathlib.Numerals.{add-one}
 use native.Mathlib.Omega.{arith}
-use lib.ListN.{length, get_or, take, drop, get_or-eq_default, length-drop, drop_of_length-le}
-use lib.Seq.{take_all, get_or-take, get_or-drop}
+use lib.ListN.{length, get_or, take, drop, get_or-eq_default, drop_of_length-le}
+use lib.Seq.{get_or-take, get_or-drop}
 use lib.Dec.{leb}
 use borrow.Author.Tests.{leb-true, leb-false}
 use Rattle.tables.specs.Semantic.{pairs, member_count, share_start}
@@ -23,14 +23,6 @@ split a b = go (leb a b) refl
 pub past : (l : List ℕ) (i : ℕ) → length l ≤ i → 0 ≡ get_or l i 0
 past l i h = sym (get_or-eq_default l 0 h)
 
--- a length that is cut to the list's takes the same part
-take_cut : (l : List ℕ) (n m : ℕ) → m ≡ min n (length l) → take m l ≡ take n l
-take_cut l n m e = go (split n (length l))
-  where
-    go : (n ≤ length l) ⊎ (length l < n) → take m l ≡ take n l
-    go (inl h) = let z : m ≡ n = omega arith in rw z
-    go (inr h) = take_all m l (omega arith) ∙ sym (take_all n l (omega arith))
-
 pub drop_cut : (l : List ℕ) (o from : ℕ) → from ≡ min o (length l) → drop from l ≡ drop o l
 drop_cut l o from e = go (split o (length l))
   where
@@ -39,28 +31,9 @@ drop_cut l o from e = go (split o (length l))
     go (inr h) =
         let a : length l ≤ from = omega arith in let b : length l ≤ o = omega arith in drop_of_length-le l a ∙ sym (drop_of_length-le l b)
 
-pub part_cut : (l : List ℕ) (o n from to : ℕ) → from ≡ min o (length l) → to ≡ min (from + n) (length l) → take (to - from) (drop from l) ≡ take n (drop o l)
-part_cut l o n from to e g =
-    take_cut (drop from l) n (to - from) (let z = length-drop from l in omega arith) ∙ ap (λ (x : List ℕ). take n x) (drop_cut l o from e)
-
 -- word i of a part: that of the list where i is below the part's length, else 0
 pub part_at : (l : List ℕ) (o n i : ℕ) → i < n → get_or l (o + i) 0 ≡ get_or (take n (drop o l)) i 0
 part_at l o n i h = sym (get_or-take n (drop o l) i 0 h ∙ get_or-drop o l i 0)
-
--- the same where the part's start is known up to a number that is past the list
-pub part_wide : (l : List ℕ) (o n i wide start : ℕ) → length l ≤ wide → start ≡ min o wide → i < n → get_or l (start + i) 0 ≡ get_or (take n (drop o l)) i 0
-part_wide l o n i wide start h e g = go (split o wide)
-  where
-    go : (o ≤ wide) ⊎ (wide < o) → get_or l (start + i) 0 ≡ get_or (take n (drop o l)) i 0
-    go (inl q) = let z : start + i ≡ o + i = omega arith in ap (λ (j : ℕ). get_or l j 0) z ∙ part_at l o n i g
-    go (inr q) = sym (past l (start + i) (omega arith)) ∙ past l (o + i) (omega arith) ∙ part_at l o n i g
-
-pub part_past : (l : List ℕ) (n i : ℕ) → n ≤ i → 0 ≡ get_or (take n l) i 0
-part_past [] zero i h = refl
-part_past [] (suc n) i h = refl
-part_past (x ∷ l) zero i h = refl
-part_past (x ∷ l) (suc n) zero h = absurd (omega arith)
-part_past (x ∷ l) (suc n) (suc i) h = part_past l n i (omega arith)
 
 module _ (functions : List ℕ) where
   pub start_zero : share_start functions 0 ≡ 0

@@ -3,18 +3,19 @@ use mathlib.Core.Path.{◌≡◌, refl, sym, ap, subst, ◌∙◌}
 use mathlib.Core.Bool.{Bool, true, false, cond, ◌&&◌}
 use mathlib.Core.List.{List, [], ◌∷◌}
 use mathlib.Core.Logic.{inl, inr}
-use Prim.Native.Nat.{ℕ, zero, suc, ◌+◌, ◌*◌, ◌-◌, ◌≤◌, ◌<◌}
+use Prim.Native.Nat.{ℕ, zero, suc, ◌-◌, ◌≤◌, ◌<◌}
 use native.Mathlib.Omega.{arith}
-use lib.ListN.{length, drop, get_or-eq_default}
+use lib.ListN.{drop}
 use lib.Dec.{eqb}
 use borrow.Author.Tests.{eq-eqb, ne_eqb}
+use Rattle.std.specs.Prelude.{Option, None, Some}
+use Rattle.std.specs.Option.{is_some, IfSome, option_eq}
+use Rattle.std.proofs.Common.{nat_eq}
 use Rattle.tables.specs.declared.children.Class.{Class}
-use Rattle.tables.specs.declared.children.Class.TheVariants.{Expr, Pattern, Lit, Ident, Block, Function, Params, Handler, Case, Left, Item}
 use Rattle.tables.specs.Record.{Words, words, word, size}
 use Rattle.tables.specs.Forest.{first, next}
-use Rattle.tables.specs.Details.{Row, row, of_kind}
-use Rattle.tables.specs.Children.{Want, times, any, maybe, pairs, belongs, heads, leads, past, past_pairs, fits, words_of, from, Serves}
-use Rattle.tables.specs.Children.{bracket, Bracketed, expected, rooted, right_children}
+use Rattle.tables.specs.Children.{Want, times, any, maybe, pairs, belongs, heads, leads, past, past_pairs, fits, words_of, from, fits_on, Serves}
+use Rattle.tables.specs.Children.{bracket, expected, rooted, right_children}
 use Rattle.tables.proofs.ForestLaws.{Onward, forest_absent, forest_record, next_onward, next_zero}
 
 pub clash : {A : Type 0} → false ≡ true → A
@@ -43,6 +44,11 @@ pub ended : (recs : List ℕ) (c : ℕ) → eqb c 0 ≡ fits [] (from recs c)
 unfolding fits
 ended recs zero = sym (ap (fits []) (from_none recs))
 ended recs (suc c) = ne_eqb (suc c) 0 (λ e. omega arith) ∙ sym (ap (fits []) (from_some recs (suc c) (λ e. omega arith)))
+
+-- child d is the one after the last
+pub ends_here : (recs : List ℕ) (d : Option ℕ) {b : Bool} → b ≡ option_eq nat_eq d (Some 0) → b ≡ fits_on recs [] d
+ends_here recs None e = e
+ends_here recs (Some d) e = e ∙ ended recs d
 
 -- the parts of a list that the wants look at
 module _ (ws : List Want) where
@@ -110,14 +116,14 @@ module _ (recs : List ℕ) (c d : ℕ) (q : d ≡ next recs c) where
       let z : n ≡ suc (n - 1) = omega arith in
       ap (λ (m : ℕ). fits (times m cls ∷ ws) (from recs c)) z ∙ times_on ws (n - 1) cls _ e ∙ ap (fits (times (n - 1) cls ∷ ws)) onward
 
-  pub took_one : (cls : Class) → heads cls (from recs c) ≡ true → Serves recs (times 1 cls) c d
+  pub took_one : (cls : Class) → heads cls (from recs c) ≡ true → Serves recs (times 1 cls) c (Some d)
   unfolding fits
   took_one cls e = record { serves = λ ws. took_times cls 1 (omega arith) e ws }
 
   pub took_any : (cls : Class) → heads cls (from recs c) ≡ true → (ws : List Want) → fits (any cls ∷ ws) (from recs c) ≡ fits (any cls ∷ ws) (from recs d)
   took_any cls e ws = any_on ws cls _ e ∙ ap (fits (any cls ∷ ws)) onward
 
-  pub took_maybe : (cls : Class) → heads cls (from recs c) ≡ true → Serves recs (maybe cls) c d
+  pub took_maybe : (cls : Class) → heads cls (from recs c) ≡ true → Serves recs (maybe cls) c (Some d)
   took_maybe cls e = record { serves = λ ws. maybe_on ws cls _ e ∙ ap (fits ws) onward }
 
   pub took_pair : (f : ℕ) → f ≡ next recs d → (a b : Class) → heads a (from recs c) ≡ true → heads b (from recs d) ≡ true → (ws : List Want)
@@ -126,7 +132,7 @@ module _ (recs : List ℕ) (c d : ℕ) (q : d ≡ next recs c) where
       pairs_on ws a b _ e (ap (heads b) onward ∙ g) ∙ ap (λ xs. fits (pairs a b ∷ ws) (drop 1 xs)) onward
       ∙ ap (fits (pairs a b ∷ ws)) (after recs d ∙ ap (from recs) (sym z))
 
-  pub odd_pair : (a b : Class) → heads a (from recs c) ≡ true → heads b (from recs d) ≡ false → Serves recs (pairs a b) c c
+  pub odd_pair : (a b : Class) → heads a (from recs c) ≡ true → heads b (from recs d) ≡ false → Serves recs (pairs a b) c (Some c)
   odd_pair a b e g = record { serves = λ ws. pairs_odd ws a b _ e (ap (heads b) onward ∙ g) }
 
 -- child c is not of the class, or is counted no more
@@ -134,47 +140,38 @@ module _ (recs : List ℕ) (c : ℕ) where
   pub left_times : (cls : Class) (n : ℕ) → 0 < n → heads cls (from recs c) ≡ false → (ws : List Want) → fits (times n cls ∷ ws) (from recs c) ≡ false
   left_times cls n h e ws = let z : n ≡ suc (n - 1) = omega arith in ap (λ (m : ℕ). fits (times m cls ∷ ws) (from recs c)) z ∙ times_off ws (n - 1) cls _ e
 
-  pub done_times : (cls : Class) (n : ℕ) → n ≤ 0 → Serves recs (times n cls) c c
+  pub done_times : (cls : Class) (n : ℕ) → n ≤ 0 → Serves recs (times n cls) c (Some c)
   unfolding fits
   done_times cls zero h = record { serves = λ ws. refl }
   done_times cls (suc n) h = absurd (omega arith)
 
-  pub left_any : (cls : Class) → heads cls (from recs c) ≡ false → Serves recs (any cls) c c
+  pub left_any : (cls : Class) → heads cls (from recs c) ≡ false → Serves recs (any cls) c (Some c)
   left_any cls e = record { serves = λ ws. any_off ws cls _ e }
 
-  pub left_maybe : (cls : Class) → heads cls (from recs c) ≡ false → Serves recs (maybe cls) c c
+  pub left_maybe : (cls : Class) → heads cls (from recs c) ≡ false → Serves recs (maybe cls) c (Some c)
   left_maybe cls e = record { serves = λ ws. maybe_off ws cls _ e }
 
-  pub left_pair : (a b : Class) → heads a (from recs c) ≡ false → Serves recs (pairs a b) c c
+  pub left_pair : (a b : Class) → heads a (from recs c) ≡ false → Serves recs (pairs a b) c (Some c)
   left_pair a b e = record { serves = λ ws. pairs_off ws a b _ e }
 
--- no class has the kind 0, so a list that begins with it never fits
-no_class : (c : Class) → belongs c 0 ≡ false
-no_class Expr = refl
-no_class Pattern = refl
-no_class Lit = refl
-no_class Ident = refl
-no_class Block = refl
-no_class Function = refl
-no_class Params = refl
-no_class Handler = refl
-no_class Case = refl
-no_class Left = refl
-no_class Item = refl
+split_off : (b m f : Bool) → (b && m) && f ≡ (b && true) && (m && f)
+split_off true m f = refl
+split_off false m f = refl
 
-unfit : (ws : List Want) (x : Words) (xs : List Words) → x.kind ≡ 0 → fits ws (x ∷ xs) ≡ false
+-- n of a class are one and n - 1 more
+pub counted_off : (n : ℕ) (c : Class) (ws : List Want) (xs : List Words) → 0 < n → fits (times n c ∷ ws) xs ≡ fits (times 1 c ∷ times (n - 1) c ∷ ws) xs
 unfolding fits
-unfit [] x xs e = refl
-unfit (times zero c ∷ ws) x xs e = unfit ws x xs e
-unfit (times (suc n) c ∷ ws) x xs e = times_off ws n c (x ∷ xs) (ap (belongs c) e ∙ no_class c)
-unfit (any c ∷ ws) x xs e = any_off ws c (x ∷ xs) (ap (belongs c) e ∙ no_class c) ∙ unfit ws x xs e
-unfit (maybe c ∷ ws) x xs e = maybe_off ws c (x ∷ xs) (ap (belongs c) e ∙ no_class c) ∙ unfit ws x xs e
-unfit (pairs a b ∷ ws) x xs e = pairs_off ws a b (x ∷ xs) (ap (belongs a) e ∙ no_class a) ∙ unfit ws x xs e
+counted_off zero c ws xs h = absurd (omega arith)
+counted_off (suc n) c ws [] h = refl
+counted_off (suc n) c ws (x ∷ xs) h =
+    let z : n ≡ suc n - 1 = omega arith in
+    split_off (belongs c x.kind) (leads n c xs) (fits ws (drop n xs)) ∙ ap (λ (m : ℕ). fits (times 1 c ∷ times m c ∷ ws) (x ∷ xs)) z
 
-pub stray : (recs : List ℕ) (ws : List Want) → fits ws (from recs (length recs + 1)) ≡ false
-stray recs ws =
-    let h : length recs ≤ (length recs + 1) * 8 + 0 = omega arith in
-    ap (fits ws) (from_some recs (length recs + 1) (λ e. omega arith)) ∙ unfit ws _ _ (get_or-eq_default recs 0 h)
+-- one of the class: b tells whether it is there, and then d is the next one
+pub one_served : (recs : List ℕ) (c : ℕ) (cls : Class) (d : Option ℕ) {b : Bool} {P : ℕ → Type 0} → b ≡ heads cls (from recs c) → is_some d ≡ b
+    → IfSome d P → ((e : ℕ) → P e → e ≡ next recs c) → Serves recs (times 1 cls) c d
+one_served recs c cls None h s k f = record { serves = λ ws. left_times recs c cls 1 (omega arith) (sym h ∙ sym s) ws }
+one_served recs c cls (Some e) h s k f = took_one recs c e (f e k) cls (sym h ∙ sym s)
 
 -- how many records can still follow record c
 abbrev pub ahead : List ℕ → ℕ → ℕ
@@ -195,34 +192,12 @@ present recs c cls e z = clash (heads_none recs c cls z ∙ e)
 pub falls : (recs : List ℕ) (c d : ℕ) (cls : Class) → d ≡ next recs c → heads cls (from recs c) ≡ true → ahead recs d < ahead recs c
 falls recs c d cls q e = falls_to recs c d (present recs c cls e) (subst (Onward recs c) (sym q) (next_onward recs c))
 
--- a kind that has no row has what the others have
-abbrev pub Absent : {A : Type 0} → ℕ → List (Row A) → Type 0
-Absent k [] = Unit {0}
-Absent k (row n x ∷ rows) = (k ≡ n → ⊥) × Absent k rows
-
-other_kind : {A : Type 0} (k : ℕ) (rows : List (Row A)) (other : A) → Absent k rows → of_kind k rows other ≡ other
-other_kind k [] other a = refl
-other_kind k (row n x ∷ rows) other (ne, a) = ap (λ (b : Bool). cond b x (of_kind k rows other)) (ne_eqb k n ne) ∙ other_kind k rows other a
-
--- x is the kind k as it was read
-pub others : (x k : ℕ) → x ≡ k → (rows : List (Row (List Want))) (other : List Want) (xs : List Words) → Absent x rows
-    → fits other xs ≡ fits (of_kind k rows other) xs
-others x k e rows other xs a = ap (λ ws. fits ws xs) (sym (other_kind x rows other a)) ∙ ap (λ (j : ℕ). fits (of_kind j rows other) xs) e
-
 -- [1: x] by the detail
 pub bracket_on : (w : Words) (x : Want) (ws : List Want) → w.detail ≡ 1 → bracket w x ws ≡ x ∷ ws
 bracket_on w x ws e = ap (λ (b : Bool). cond b (x ∷ ws) ws) (eq-eqb w.detail 1 e)
 
 pub bracket_off : (w : Words) (x : Want) (ws : List Want) → (w.detail ≡ 1 → ⊥) → bracket w x ws ≡ ws
 bracket_off w x ws ne = ap (λ (b : Bool). cond b (x ∷ ws) ws) (ne_eqb w.detail 1 ne)
-
--- d is the detail as it was read
-module _ (recs : List ℕ) (r d : ℕ) (q : d ≡ word recs r 1) (x : Want) (c : ℕ) where
-  pub bracketed : (e : ℕ) → d ≡ 1 → Serves recs x c e → Bracketed recs r x c e
-  bracketed e h s = record { serves = λ ws. ap (λ vs. fits vs (from recs c)) (bracket_on (words recs r) x ws (sym q ∙ h)) ∙ s.serves ws }
-
-  pub unbracketed : (d ≡ 1 → ⊥) → Bracketed recs r x c c
-  unbracketed ne = record { serves = λ ws. ap (λ vs. fits vs (from recs c)) (bracket_off (words recs r) x ws (λ h. ne (q ∙ h))) }
 
 -- the answer b for the children of record r, and what record 0 needs besides
 module _ (recs : List ℕ) (r c : ℕ) (q : c ≡ first recs r) (b : Bool) (a : b ≡ fits (expected (words recs r)) (from recs c)) where

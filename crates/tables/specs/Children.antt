@@ -1,6 +1,6 @@
 -- Row 6 of 'Refused by place': "children not those of its kind; record 0 no Function or with `next`". Each kind's children as section 'Records' lists
 -- them. Definitions only.
-use Rattle.std.specs.Prelude.{◌≡◌, Bool, true, false, not, cond, ◌&&◌, ◌||◌, List, [], ◌∷◌, ℕ, zero, suc, ◌-◌, drop, leb, eqb}
+use Rattle.std.specs.Prelude.{◌≡◌, Bool, true, false, not, cond, ◌&&◌, ◌||◌, List, [], ◌∷◌, ℕ, zero, suc, ◌-◌, drop, leb, eqb, Option, None, Some}
 use Rattle.tables.specs.declared.children.Class.{Class}
 use Rattle.tables.specs.declared.children.Class.TheVariants.{Expr, Pattern, Lit, Ident, Block, Function, Params, Handler, Case, Left, Item}
 use Rattle.tables.specs.Record.{Words, words, word, is_function}
@@ -163,13 +163,18 @@ node_words (node w k s) = w ∷ node_words s
 abbrev pub from : List ℕ → ℕ → List Words
 from recs c = words_of (forest recs c)
 
--- the children from c on begin with what is wanted, and those from d on are left; where they don't, none can suit from d on
-pub record Serves (recs : List ℕ) (w : Want) (c d : ℕ) : Type 0 where
-  pub serves : (ws : List Want) → fits (w ∷ ws) (from recs c) ≡ fits ws (from recs d)
+-- the children from d on are what is wanted; without a d, those before it were not
+abbrev pub fits_on : List ℕ → List Want → Option ℕ → Bool
+fits_on recs ws None = false
+fits_on recs ws (Some d) = fits ws (from recs d)
+
+-- the children from c on begin with what is wanted, and those from d on are left; no d where they don't begin so
+pub record Serves (recs : List ℕ) (w : Want) (c : ℕ) (d : Option ℕ) : Type 0 where
+  pub serves : (ws : List Want) → fits (w ∷ ws) (from recs c) ≡ fits_on recs ws d
 
 -- the same for [1: x]
-pub record Bracketed (recs : List ℕ) (r : ℕ) (x : Want) (c d : ℕ) : Type 0 where
-  pub serves : (ws : List Want) → fits (bracket (words recs r) x ws) (from recs c) ≡ fits ws (from recs d)
+pub record Bracketed (recs : List ℕ) (r : ℕ) (x : Want) (c : ℕ) (d : Option ℕ) : Type 0 where
+  pub serves : (ws : List Want) → fits (bracket (words recs r) x ws) (from recs c) ≡ fits_on recs ws d
 
 -- record 0 is a Function and has no `next`
 abbrev pub rooted : List ℕ → Bool

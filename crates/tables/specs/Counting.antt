@@ -1,5 +1,6 @@
 -- Functions counted in subtrees, and where the numbers of a subtree begin: what the passes of row 9 leave in their arrays. Definitions only.
-use Rattle.std.specs.Prelude.{Bool, true, false, cond, not, ◌&&◌, List, ◌≡◌, ℕ, zero, suc, ◌+◌, ◌-◌, ◌*◌, ◌<◌, min, length, get_or, eqb}
+use Rattle.std.specs.Prelude.{Bool, true, false, cond, not, ◌&&◌, List, map, ◌≡◌, ℕ, zero, suc, ◌+◌, ◌-◌, ◌*◌, ◌<◌, min, length, get_or, eqb}
+use Rattle.tables.specs.declared.numbering.Count.{Count}
 use Rattle.tables.specs.declared.numbering.Manner.{Manner}
 use Rattle.tables.specs.declared.numbering.Manner.TheVariants.{Stored, RightFirst, RightThenBack}
 use Rattle.tables.specs.Record.{Words, word, words, size, absent, is_function}
@@ -22,6 +23,17 @@ tally (tree r w k s) = own w + tally k + tally s
 unfoldable pub tally_left : Forest → ℕ
 tally_left none = 0
 tally_left (tree r w k s) = cond (is_left w) (own w + tally k) 0 + tally_left s
+
+-- the count of no records
+abbrev pub blank : Count
+blank = record { all = 0; left = 0 }
+
+-- the two numbers of each count, as lists of their own
+abbrev pub alls : List Count → List ℕ
+alls counts = map (λ c. c.all) counts
+
+abbrev pub lefts : List Count → List ℕ
+lefts counts = map (λ c. c.left) counts
 
 -- an array with a number for each record's forest: the record with what is below it and its later siblings
 pub record Tallied (t : Forest → ℕ) (recs a : List ℕ) : Type 0 where

@@ -1,5 +1,5 @@
 -- Row 4 of 'Refused by place': "unknown kind or detail; string out of range; Bool not 0 or 1". Definitions only.
-use Rattle.std.specs.Prelude.{Bool, true, not, cond, ◌&&◌, ◌||◌, List, [], ◌∷◌, ℕ, leb, ltb, eqb}
+use Rattle.std.specs.Prelude.{Bool, true, not, cond, ◌&&◌, ◌||◌, List, [], ◌∷◌, ℕ, zero, suc, leb, ltb, eqb, Option, None, Some}
 use Rattle.tables.specs.Record.{Words, words, absent}
 
 -- a kind's number and what the kind has
@@ -35,6 +35,11 @@ details =
     ∷ row 38 2  -- List pattern: `others` or not
     ∷ row 39 2  -- Item: an alias or not
     ∷ []
+
+-- the count, none for a kind that names no details
+abbrev pub named_count : ℕ → Option ℕ
+named_count zero = None
+named_count (suc n) = Some (suc n)
 
 -- detail d of kind k, which has n of them. "Words a kind doesn't use are ignored": any, where the kind names none (reading 3);
 -- between the members and the safe ones a Member (12) has none

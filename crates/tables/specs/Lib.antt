@@ -7,6 +7,7 @@ pub mod Lent
 pub mod Entries
 pub mod Seen
 pub mod Details
+pub mod Kinds
 pub mod Links
 pub mod Children
 pub mod Naming

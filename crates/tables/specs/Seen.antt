@@ -1,7 +1,8 @@
 -- What the passes of row 3 keep of the entries that they have gone through: strings by hash, symbols by their last place. Definitions only.
-use Rattle.std.specs.Prelude.{◌≡◌, cond, List, ℕ, zero, suc, ◌+◌, ◌*◌, ◌%◌, ◌<◌, length, get_or, eqb}
+use Rattle.std.specs.Prelude.{◌≡◌, cond, List, map, ℕ, zero, suc, ◌+◌, ◌*◌, ◌%◌, ◌<◌, length, get_or, eqb}
 use Rattle.std.specs.List.{fold}
 use Rattle.tables.specs.declared.strings.Chains.{Chains}
+use Rattle.tables.specs.declared.strings.Link.{Link}
 use Rattle.tables.specs.Semantic.{text_of}
 
 -- one more than the last place below n that has key b, 0 where none has
@@ -26,14 +27,20 @@ bucket h = h % 1021
 abbrev pub bucket_at : (ℕ → ℕ) → ℕ → ℕ
 bucket_at key e = bucket (key e)
 
+-- the hash of each link, and the entry before it, as lists of their own
+abbrev pub hashes : List Link → List ℕ
+hashes links = map (λ l. l.hash) links
+
+abbrev pub nexts : List Link → List ℕ
+nexts links = map (λ l. l.next) links
+
 -- the first s entries: each one's hash, the newest of each bucket, and for each entry the one before it in its bucket
 pub record Chained (key : ℕ → ℕ) (chains : Chains) (s : ℕ) : Type 0 where
-  pub hashes_long : length chains.hashes ≡ 1024
+  pub links_long : length chains.links ≡ 1024
   pub heads_long : length chains.heads ≡ 1024
-  pub next_long : length chains.next ≡ 1024
-  pub hashed : (e : ℕ) → e < s → get_or chains.hashes e 0 ≡ key e
+  pub hashed : (e : ℕ) → e < s → get_or (hashes chains.links) e 0 ≡ key e
   pub newest : (b : ℕ) → b < 1021 → get_or chains.heads b 0 ≡ last (bucket_at key) b s
-  pub older : (e : ℕ) → e < s → get_or chains.next e 0 ≡ last (bucket_at key) (bucket_at key e) e
+  pub older : (e : ℕ) → e < s → get_or (nexts chains.links) e 0 ≡ last (bucket_at key) (bucket_at key e) e
 
 -- the symbol at place m of the members
 abbrev pub symbol_at : List ℕ → ℕ → ℕ

@@ -1,7 +1,10 @@
 // Records as the tree of the Rust's ast/: a record's words and links. Record 0 stands for an absent child or sibling.
-ghost use Rattle.std.specs.Prelude.{◌≡◌, ◌<◌};
+ghost use Rattle.std.specs.Prelude.{◌≡◌, ◌<◌, eqb};
 ghost use Rattle.tables.specs.Record.{word as word_of, size as size_of};
 ghost use Rattle.tables.specs.Forest.{guarded, first as first_of, next as next_of};
+ghost use Rattle.tables.specs.Kinds.{kind_of, import_kind_of, function_kind_of};
+
+use crate::kind::{FunctionKind, ImportKind, Kind};
 
 // The number of records, of eight words each. Here and in `link` a shift: listings are printed without dividing.
 pub fn size(recs: &[u32]) -> usize
@@ -22,16 +25,35 @@ fn word(recs: &[u32], r: usize, k: usize) -> u32
     }
 }
 
-pub fn kind(recs: &[u32], r: usize) -> u32
-    ensures { result ≡ word_of recs.now r 0 }
+pub fn kind(recs: &[u32], r: usize) -> Kind
+    ensures { result ≡ kind_of (word_of recs.now r 0) }
 {
-    word(recs, r, 0)
+    Kind::from(word(recs, r, 0))
 }
 
 pub fn detail(recs: &[u32], r: usize) -> u32
     ensures { result ≡ word_of recs.now r 1 }
 {
     word(recs, r, 1)
+}
+
+// A detail that is a flag: whether what stands in brackets is there.
+pub fn flag(recs: &[u32], r: usize) -> bool
+    ensures { result ≡ eqb (word_of recs.now r 1) 1 }
+{
+    detail(recs, r) == 1
+}
+
+pub fn import_kind(recs: &[u32], r: usize) -> ImportKind
+    ensures { result ≡ import_kind_of (word_of recs.now r 1) }
+{
+    ImportKind::from(detail(recs, r))
+}
+
+pub fn function_kind(recs: &[u32], r: usize) -> FunctionKind
+    ensures { result ≡ function_kind_of (word_of recs.now r 1) }
+{
+    FunctionKind::from(detail(recs, r))
 }
 
 pub fn p(recs: &[u32], r: usize) -> u32

@@ -1,22 +1,18 @@
 // Row 6: the children of each record are those of its kind.
-ghost use Rattle.std.specs.Prelude.{◌≡◌, false, List, [], ◌∷◌};
+ghost use Rattle.std.specs.Prelude.{◌≡◌, ℕ, [], ◌∷◌, Option};
 ghost use Rattle.tables.specs.Record.{size as size_of, words, word};
 ghost use Rattle.tables.specs.Place.{broken};
-ghost use Rattle.tables.specs.Children.{belongs as belongs_to, heads as heads_of, from, fits, Want, Serves, property as property_of, member as member_of};
+ghost use Rattle.tables.specs.Kinds.{kind_of, import_kind_of};
+ghost use Rattle.tables.specs.Children.{belongs as belongs_to, heads as heads_of, from, fits, fits_on, Want, Serves, property as property_of, member as member_of};
 ghost use Rattle.tables.specs.Children.{left_property, imported as imported_of, Bracketed, expected, expected_control, expected_store, expected_part};
 ghost use Rattle.tables.specs.Children.{rooted as rooted_of, right_children, wrong_children};
 
-use crate::ast::{detail, first, kind, next, next_word, p, size};
-use crate::detail::{ITEMS, PLAIN, SAFE, WITH_ALIAS};
-use crate::kind::{
-    ASSIGN, ASSIGN_MULTI, ASSIGN_OP, ASSIGN_UNPACK, BINARY, BLOCK, CALL, CASE, EFFECT, FN, FOR,
-    FUNCTION, GLO_ASSIGN, HANDLER, IDENT, IF, IMPORT, ITEM, LEFT, LIST, LIST_PATTERN, LIT,
-    LIT_PATTERN, LOOP, MATCH, MEMBER, PARAMS, PAREN, RETURN, TABLE, TABLE_PATTERN, TYPE_CHECK,
-    UNARY, WHILE,
-};
+use crate::ast::{detail, first, flag, import_kind, kind, next, next_word, p, size};
+use crate::detail::{PLAIN, SAFE};
+use crate::kind::{ImportKind, Kind};
 
 // What a child may be: an expr, a pattern, or one kind.
-#[derive(Clone, Copy)]
+#[derive(Clone, Copy, Debug, PartialEq, Eq)]
 pub enum Class {
     Expr,
     Pattern,
@@ -31,21 +27,21 @@ pub enum Class {
     Item,
 }
 
-fn belongs(class: Class, kind: u32) -> bool
-    ensures { result ≡ belongs_to class kind }
+fn belongs(class: Class, kind: Kind) -> bool
+    ensures { (n : ℕ) → kind ≡ kind_of n → result ≡ belongs_to class n }
 {
     match class {
-        Class::Expr => matches!(kind, LIT..=ASSIGN_MULTI),
-        Class::Pattern => matches!(kind, LIT_PATTERN..=LIST_PATTERN),
-        Class::Lit => kind == LIT,
-        Class::Ident => kind == IDENT,
-        Class::Block => kind == BLOCK,
-        Class::Function => kind == FUNCTION,
-        Class::Params => kind == PARAMS,
-        Class::Handler => kind == HANDLER,
-        Class::Case => kind == CASE,
-        Class::Left => kind == LEFT,
-        Class::Item => kind == ITEM,
+        Class::Expr => kind.is_expr(),
+        Class::Pattern => kind.is_pattern(),
+        Class::Lit => kind == Kind::Lit,
+        Class::Ident => kind == Kind::Ident,
+        Class::Block => kind == Kind::Block,
+        Class::Function => kind == Kind::Function,
+        Class::Params => kind == Kind::Params,
+        Class::Handler => kind == Kind::Handler,
+        Class::Case => kind == Kind::Case,
+        Class::Left => kind == Kind::Left,
+        Class::Item => kind == Kind::Item,
     }
 }
 
@@ -56,38 +52,26 @@ fn heads(recs: &[u32], c: usize, class: Class) -> bool
     c != 0 && belongs(class, kind(recs, c))
 }
 
-// Stands for a child that suits no kind: a number past the table, whose kind is 0.
-fn stray(recs: &[u32]) -> usize
-    ensures { (ws : List Want) → fits ws (from recs.now result) ≡ false }
-{
-    recs.len() + 1
-}
-
-// The functions below go from child c to the one after those that they take, or to a stray one.
-fn one(recs: &[u32], c: usize, class: Class) -> usize
+// The functions below go from child c to the one after those that they take, 0 after the last; None where the children don't begin so.
+fn one(recs: &[u32], c: usize, class: Class) -> Option<usize>
     ensures { Serves recs.now (Want.times 1 class) c result }
 {
-    if heads(recs, c, class) {
-        return next(recs, c);
-    }
-    stray(recs)
+    heads(recs, c, class).then(|| next(recs, c))
 }
 
-fn times(recs: &[u32], n: u32, c: usize, class: Class) -> usize
+fn times(recs: &[u32], n: u32, c: usize, class: Class) -> Option<usize>
     ensures { Serves recs.now (Want.times n class) c result }
 {
     let mut at = c;
     for _ in 0..n {
-        if !heads(recs, at, class) {
-            return stray(recs);
-        }
-        at = next(recs, at);
+        at = one(recs, at, class)?;
     }
-    at
+    Some(at)
 }
 
+// Takes all of the class, none too, as do `maybe` and `pairs`: there is always a child after them.
 fn any(recs: &[u32], c: usize, class: Class) -> usize
-    ensures { Serves recs.now (Want.any class) c result }
+    ensures { Serves recs.now (Want.any class) c (Option.Some result) }
 {
     let mut at = c;
     while heads(recs, at, class) {
@@ -97,7 +81,7 @@ fn any(recs: &[u32], c: usize, class: Class) -> usize
 }
 
 fn maybe(recs: &[u32], c: usize, class: Class) -> usize
-    ensures { Serves recs.now (Want.maybe class) c result }
+    ensures { Serves recs.now (Want.maybe class) c (Option.Some result) }
 {
     if heads(recs, c, class) {
         return next(recs, c);
@@ -106,7 +90,7 @@ fn maybe(recs: &[u32], c: usize, class: Class) -> usize
 }
 
 fn pairs(recs: &[u32], c: usize, key: Class, value: Class) -> usize
-    ensures { Serves recs.now (Want.pairs key value) c result }
+    ensures { Serves recs.now (Want.pairs key value) c (Option.Some result) }
 {
     let mut at = c;
     while heads(recs, at, key) {
@@ -120,44 +104,36 @@ fn pairs(recs: &[u32], c: usize, key: Class, value: Class) -> usize
 }
 
 // p of the class.
-fn counted(recs: &[u32], r: usize, c: usize, class: Class) -> usize
+fn counted(recs: &[u32], r: usize, c: usize, class: Class) -> Option<usize>
     ensures { Serves recs.now (Want.times (word recs.now r 2) class) c result }
 {
     times(recs, p(recs, r), c, class)
 }
 
 // One more if the detail is 1.
-fn bracket(recs: &[u32], r: usize, c: usize, class: Class) -> usize
+fn bracket(recs: &[u32], r: usize, c: usize, class: Class) -> Option<usize>
     ensures { Bracketed recs.now r (Want.times 1 class) c result }
 {
-    if detail(recs, r) == 1 {
+    if flag(recs, r) {
         return one(recs, c, class);
     }
-    c
+    Some(c)
 }
 
-// The functions below answer whether the children from c on are those wanted, and no more.
-fn only(recs: &[u32], c: usize, class: Class) -> bool
-    ensures { result ≡ fits (Want.times 1 class ∷ []) (from recs.now c) }
+fn both(recs: &[u32], c: usize, left: Class, right: Class) -> Option<usize>
+    ensures { fits_on recs.now [] result ≡ fits (Want.times 1 left ∷ Want.times 1 right ∷ []) (from recs.now c) }
 {
-    one(recs, c, class) == 0
-}
-
-fn both(recs: &[u32], c: usize, left: Class, right: Class) -> bool
-    ensures { result ≡ fits (Want.times 1 left ∷ Want.times 1 right ∷ []) (from recs.now c) }
-{
-    only(recs, one(recs, c, left), right)
+    one(recs, one(recs, c, left)?, right)
 }
 
 // The property of member m.
-fn property(recs: &[u32], c: usize, m: u32) -> bool
-    ensures { result ≡ fits (property_of m) (from recs.now c) }
+fn property(recs: &[u32], c: usize, m: u32) -> Option<usize>
+    ensures { fits_on recs.now [] result ≡ fits (property_of m) (from recs.now c) }
 {
     match m {
-        0 => only(recs, c, Class::Expr),
-        1 => only(recs, c, Class::Ident),
-        2 => only(recs, c, Class::Ident),
-        _ => c == 0,
+        0 => one(recs, c, Class::Expr),
+        1 | 2 => one(recs, c, Class::Ident),
+        _ => Some(c),
     }
 }
 
@@ -165,106 +141,110 @@ fn property(recs: &[u32], c: usize, m: u32) -> bool
 fn member(detail: u32) -> u32
     ensures { result ≡ member_of detail }
 {
-    if detail < SAFE { detail } else { detail - SAFE }
+    detail.checked_sub(SAFE).unwrap_or(detail)
 }
 
-fn left_property(recs: &[u32], c: usize, detail: u32) -> bool
-    ensures { result ≡ fits (left_property detail) (from recs.now c) }
+fn left_property(recs: &[u32], c: usize, detail: u32) -> Option<usize>
+    ensures { fits_on recs.now [] result ≡ fits (left_property detail) (from recs.now c) }
 {
     if detail == PLAIN {
-        c == 0
+        Some(c)
     } else {
         property(recs, c, detail - 1)
     }
 }
 
 // What follows an Import's path.
-fn imported(recs: &[u32], c: usize, detail: u32) -> bool
-    ensures { result ≡ fits (imported_of detail) (from recs.now c) }
+fn imported(recs: &[u32], c: usize, kind: ImportKind) -> Option<usize>
+    ensures { (n : ℕ) → kind ≡ import_kind_of n → fits_on recs.now [] result ≡ fits (imported_of n) (from recs.now c) }
 {
-    match detail {
-        WITH_ALIAS => only(recs, c, Class::Ident),
-        ITEMS => any(recs, c, Class::Item) == 0,
-        _ => c == 0,
+    match kind {
+        ImportKind::WithAlias => one(recs, c, Class::Ident),
+        ImportKind::Items => Some(any(recs, c, Class::Item)),
+        ImportKind::Simple | ImportKind::Glob => Some(c),
     }
 }
 
 // Functions, their parts, and patterns.
-fn part_children(recs: &[u32], r: usize, c: usize) -> bool
-    ensures { result ≡ fits (expected_part (words recs.now r)) (from recs.now c) }
+fn part_children(recs: &[u32], r: usize, c: usize) -> Option<usize>
+    ensures { fits_on recs.now [] result ≡ fits (expected_part (words recs.now r)) (from recs.now c) }
 {
     match kind(recs, r) {
-        FUNCTION => both(recs, c, Class::Params, Class::Block),
-        PARAMS => any(recs, bracket(recs, r, c, Class::Ident), Class::Ident) == 0,
-        HANDLER => both(
+        Kind::Function => both(recs, c, Class::Params, Class::Block),
+        Kind::Params => Some(any(recs, bracket(recs, r, c, Class::Ident)?, Class::Ident)),
+        Kind::Handler => both(
             recs,
-            one(recs, c, Class::Ident),
+            one(recs, c, Class::Ident)?,
             Class::Params,
             Class::Block,
         ),
-        CASE => only(recs, counted(recs, r, c, Class::Pattern), Class::Expr),
-        LEFT => left_property(recs, one(recs, c, Class::Ident), detail(recs, r)),
-        TABLE_PATTERN => pairs(recs, c, Class::Lit, Class::Pattern) == 0,
-        LIST_PATTERN => any(recs, c, Class::Pattern) == 0,
-        ITEM => bracket(recs, r, one(recs, c, Class::Ident), Class::Ident) == 0,
-        _ => c == 0,
+        Kind::Case => one(recs, counted(recs, r, c, Class::Pattern)?, Class::Expr),
+        Kind::Left => left_property(recs, one(recs, c, Class::Ident)?, detail(recs, r)),
+        Kind::TablePattern => Some(pairs(recs, c, Class::Lit, Class::Pattern)),
+        Kind::ListPattern => Some(any(recs, c, Class::Pattern)),
+        Kind::Item => bracket(recs, r, one(recs, c, Class::Ident)?, Class::Ident),
+        _ => Some(c),
     }
 }
 
 // Import and the assignments.
-fn store_children(recs: &[u32], r: usize, c: usize) -> bool
-    ensures { result ≡ fits (expected_store (words recs.now r)) (from recs.now c) }
+fn store_children(recs: &[u32], r: usize, c: usize) -> Option<usize>
+    ensures { fits_on recs.now [] result ≡ fits (expected_store (words recs.now r)) (from recs.now c) }
 {
     match kind(recs, r) {
-        IMPORT => imported(recs, counted(recs, r, c, Class::Ident), detail(recs, r)),
-        GLO_ASSIGN => both(recs, c, Class::Ident, Class::Expr),
-        ASSIGN => both(recs, c, Class::Left, Class::Expr),
-        ASSIGN_OP => both(recs, c, Class::Left, Class::Expr),
-        ASSIGN_UNPACK => only(recs, counted(recs, r, c, Class::Left), Class::Expr),
-        ASSIGN_MULTI => any(recs, counted(recs, r, c, Class::Left), Class::Expr) == 0,
+        Kind::Import => imported(
+            recs,
+            counted(recs, r, c, Class::Ident)?,
+            import_kind(recs, r),
+        ),
+        Kind::GloAssign => both(recs, c, Class::Ident, Class::Expr),
+        Kind::Assign => both(recs, c, Class::Left, Class::Expr),
+        Kind::AssignOp => both(recs, c, Class::Left, Class::Expr),
+        Kind::AssignUnpack => one(recs, counted(recs, r, c, Class::Left)?, Class::Expr),
+        Kind::AssignMulti => Some(any(recs, counted(recs, r, c, Class::Left)?, Class::Expr)),
         _ => part_children(recs, r, c),
     }
 }
 
 // Call, Match and what changes the flow of control.
-fn control_children(recs: &[u32], r: usize, c: usize) -> bool
-    ensures { result ≡ fits (expected_control (words recs.now r)) (from recs.now c) }
+fn control_children(recs: &[u32], r: usize, c: usize) -> Option<usize>
+    ensures { fits_on recs.now [] result ≡ fits (expected_control (words recs.now r)) (from recs.now c) }
 {
     match kind(recs, r) {
-        CALL => {
-            let last = any(recs, one(recs, c, Class::Expr), Class::Expr);
-            any(recs, maybe(recs, last, Class::Function), Class::Handler) == 0
+        Kind::Call => {
+            let last = any(recs, one(recs, c, Class::Expr)?, Class::Expr);
+            Some(any(recs, maybe(recs, last, Class::Function), Class::Handler))
         }
-        IF => {
-            let block = one(recs, c, Class::Expr);
-            bracket(recs, r, one(recs, block, Class::Block), Class::Expr) == 0
+        Kind::If => {
+            let block = one(recs, c, Class::Expr)?;
+            bracket(recs, r, one(recs, block, Class::Block)?, Class::Expr)
         }
-        MATCH => any(recs, one(recs, c, Class::Expr), Class::Case) == 0,
-        LOOP => only(recs, c, Class::Block),
-        WHILE => both(recs, c, Class::Expr, Class::Block),
-        FOR => both(
+        Kind::Match => Some(any(recs, one(recs, c, Class::Expr)?, Class::Case)),
+        Kind::Loop => one(recs, c, Class::Block),
+        Kind::While => both(recs, c, Class::Expr, Class::Block),
+        Kind::For => both(
             recs,
-            counted(recs, r, c, Class::Ident),
+            counted(recs, r, c, Class::Ident)?,
             Class::Expr,
             Class::Block,
         ),
-        RETURN => only(recs, c, Class::Expr),
+        Kind::Return => one(recs, c, Class::Expr),
         _ => store_children(recs, r, c),
     }
 }
 
-// All kinds: the children from c on are those of record r's kind.
-fn kind_children(recs: &[u32], r: usize, c: usize) -> bool
-    ensures { result ≡ fits (expected (words recs.now r)) (from recs.now c) }
+// All kinds: from child c to the one after those of record r's kind.
+fn kind_children(recs: &[u32], r: usize, c: usize) -> Option<usize>
+    ensures { fits_on recs.now [] result ≡ fits (expected (words recs.now r)) (from recs.now c) }
 {
     match kind(recs, r) {
-        PAREN | UNARY | TYPE_CHECK => only(recs, c, Class::Expr),
-        BLOCK | LIST => any(recs, c, Class::Expr) == 0,
-        FN => only(recs, bracket(recs, r, c, Class::Ident), Class::Function),
-        EFFECT => both(recs, c, Class::Ident, Class::Params),
-        TABLE => pairs(recs, c, Class::Expr, Class::Expr) == 0,
-        BINARY => both(recs, c, Class::Expr, Class::Expr),
-        MEMBER => property(recs, one(recs, c, Class::Expr), member(detail(recs, r))),
+        Kind::Paren | Kind::Unary | Kind::TypeCheck => one(recs, c, Class::Expr),
+        Kind::Block | Kind::List => Some(any(recs, c, Class::Expr)),
+        Kind::Fn => one(recs, bracket(recs, r, c, Class::Ident)?, Class::Function),
+        Kind::Effect => both(recs, c, Class::Ident, Class::Params),
+        Kind::Table => Some(pairs(recs, c, Class::Expr, Class::Expr)),
+        Kind::Binary => both(recs, c, Class::Expr, Class::Expr),
+        Kind::Member => property(recs, one(recs, c, Class::Expr)?, member(detail(recs, r))),
         _ => control_children(recs, r, c),
     }
 }
@@ -272,13 +252,13 @@ fn kind_children(recs: &[u32], r: usize, c: usize) -> bool
 fn rooted(recs: &[u32]) -> bool
     ensures { result ≡ rooted_of recs.now }
 {
-    kind(recs, 0) == FUNCTION && next_word(recs, 0) == 0
+    kind(recs, 0) == Kind::Function && next_word(recs, 0) == 0
 }
 
 fn children_ok(recs: &[u32], r: usize) -> bool
     ensures { result ≡ right_children recs.now r }
 {
-    kind_children(recs, r, first(recs, r)) && (r != 0 || rooted(recs))
+    kind_children(recs, r, first(recs, r)) == Some(0) && (r != 0 || rooted(recs))
 }
 
 // The first record whose children are not those of its kind; record 0 is a Function and has no sibling.

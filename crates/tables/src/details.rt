@@ -1,52 +1,50 @@
 // Row 4: the kind, the detail and the strings of each record.
-ghost use Rattle.std.specs.Prelude.{◌≡◌};
+ghost use Rattle.std.specs.Prelude.{◌≡◌, ℕ};
 ghost use Rattle.tables.specs.Record.{size as size_of, words};
 ghost use Rattle.tables.specs.Place.{broken};
-ghost use Rattle.tables.specs.Details.{of_kind, known_kind, details as details_of, right_number, known_detail, right_lit, right_words, right_detail, wrong_detail};
+ghost use Rattle.tables.specs.Kinds.{kind_of};
+ghost use Rattle.tables.specs.Details.{of_kind, known_kind, details as details_of, named_count, right_number, known_detail, right_lit, right_words, right_detail, wrong_detail};
 
 use crate::ast::{detail, kind, p, q, size};
-use crate::kind::{
-    ASSIGN_MULTI, ASSIGN_OP, BINARY, EFFECT, FN, FUNCTION, IDENT, IDENT_PATTERN, IF, IMPORT, ITEM,
-    LEFT, LIST_PATTERN, LIT, LIT_PATTERN, MEMBER, PARAMS, TABLE_PATTERN, TYPE_CHECK, UNARY,
-};
+use crate::kind::Kind;
 use crate::semantic::NONE;
 
-fn known_kind(kind: u32) -> bool
-    ensures { result ≡ known_kind kind }
+fn known_kind(kind: Kind) -> bool
+    ensures { (n : ℕ) → kind ≡ kind_of n → result ≡ known_kind n }
 {
-    matches!(kind, LIT..=ASSIGN_MULTI | FUNCTION..=ITEM)
+    kind != Kind::Unknown
 }
 
-// How many details a kind has, 0 if it names none.
-fn detail_count(kind: u32) -> u32
-    ensures { result ≡ of_kind kind details_of 0 }
+// How many details a kind has, if it names any.
+fn detail_count(kind: Kind) -> Option<u32>
+    ensures { (n : ℕ) → kind ≡ kind_of n → result ≡ named_count (of_kind n details_of 0) }
 {
     match kind {
-        LIT => 6,
-        FN => 2,
-        UNARY => 2,
-        BINARY => 14,
-        TYPE_CHECK => 10,
-        MEMBER => 14,
-        IF => 2,
-        IMPORT => 4,
-        ASSIGN_OP => 14,
-        FUNCTION => 3,
-        PARAMS => 2,
-        LEFT => 7,
-        LIT_PATTERN => 6,
-        TABLE_PATTERN => 2,
-        LIST_PATTERN => 2,
-        ITEM => 2,
-        _ => 0,
+        Kind::Lit => Some(6),
+        Kind::Fn => Some(2),
+        Kind::Unary => Some(2),
+        Kind::Binary => Some(14),
+        Kind::TypeCheck => Some(10),
+        Kind::Member => Some(14),
+        Kind::If => Some(2),
+        Kind::Import => Some(4),
+        Kind::AssignOp => Some(14),
+        Kind::Function => Some(3),
+        Kind::Params => Some(2),
+        Kind::Left => Some(7),
+        Kind::LitPattern => Some(6),
+        Kind::TablePattern => Some(2),
+        Kind::ListPattern => Some(2),
+        Kind::Item => Some(2),
+        _ => None,
     }
 }
 
-// Detail d of kind k, which has n of them. A Member's details are 0 to 5 and, if safe, 8 to 13.
-fn right_number(k: u32, d: u32, n: u32) -> bool
-    ensures { result ≡ right_number k d n }
+// Detail d of kind k, of which there are so many. A Member's details are 0 to 5 and, if safe, 8 to 13.
+fn right_number(k: Kind, d: u32, count: Option<u32>) -> bool
+    ensures { (j n : ℕ) → k ≡ kind_of j → count ≡ named_count n → result ≡ right_number j d n }
 {
-    n == 0 || (d < n && !(k == MEMBER && 6 <= d && d <= 7))
+    count.is_none_or(|n| d < n && !(k == Kind::Member && matches!(d, 6 | 7)))
 }
 
 fn known_detail(recs: &[u32], r: usize) -> bool
@@ -73,10 +71,10 @@ fn right_words(recs: &[u32], n: usize, r: usize) -> bool
 {
     let name = q(recs, r);
     match kind(recs, r) {
-        LIT | LIT_PATTERN => right_lit(recs, n, r),
-        IDENT | IMPORT | IDENT_PATTERN => (name as usize) < n,
-        EFFECT => (p(recs, r) as usize) < n,
-        FUNCTION => name == NONE || (name as usize) < n,
+        Kind::Lit | Kind::LitPattern => right_lit(recs, n, r),
+        Kind::Ident | Kind::Import | Kind::IdentPattern => (name as usize) < n,
+        Kind::Effect => (p(recs, r) as usize) < n,
+        Kind::Function => name == NONE || (name as usize) < n,
         _ => true,
     }
 }

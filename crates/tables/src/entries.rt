@@ -2,6 +2,7 @@
 ghost use Rattle.std.specs.Prelude.{◌≡◌};
 ghost use Rattle.tables.specs.Entries.{symbol_bad, symbols_broken, reference_bad, references_broken, parent_bad, parents_broken, counts_broken, entries_broken};
 
+use crate::kind::SymbolKind;
 use crate::lent::Tables;
 use crate::members::members_broken;
 use crate::semantic::{NONE, pairs, parent, share_start, symbol_kind, symbol_name, symbol_of};
@@ -12,7 +13,8 @@ use crate::strings::strings_broken;
 fn symbol_bad(strings: &[u32], symbols: &[u32], s: usize) -> bool
     ensures { result ≡ symbol_bad strings.now symbols.now s }
 {
-    1 < symbol_kind(symbols, s) || pairs(strings) <= symbol_name(symbols, s) as usize
+    SymbolKind::try_from(symbol_kind(symbols, s)).is_err()
+        || pairs(strings) <= symbol_name(symbols, s) as usize
 }
 
 fn symbols_broken(strings: &[u32], symbols: &[u32]) -> Option<usize>
@@ -55,10 +57,7 @@ fn counts_broken(functions: &[u32], members: &[u32]) -> Option<usize>
 {
     let n = pairs(functions);
     let sum = share_start(functions, n);
-    if sum == members.len() {
-        return None;
-    }
-    Some(n)
+    (sum != members.len()).then_some(n)
 }
 
 // The first broken entry of tables 1 to 6, in turn.
@@ -66,7 +65,7 @@ pub fn entries(tables: &Tables) -> Option<usize>
     ensures { result ≡ entries_broken tables.now.strings.now tables.now.bytes.now tables.now.symbols.now
         tables.now.references.now tables.now.functions.now tables.now.members.now }
 {
-    strings_broken(tables.strings, tables.bytes)
+    strings_broken(tables)
         .or_else(|| symbols_broken(tables.strings, tables.symbols))
         .or_else(|| references_broken(tables.symbols, tables.references))
         .or_else(|| parents_broken(tables.functions))

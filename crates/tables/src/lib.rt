@@ -17,4 +17,5 @@ pub mod numbering;
 pub mod refusal;
 mod scratch;
 pub mod semantic;
+pub mod slices;
 pub mod strings;

@@ -1,29 +1,32 @@
 // Row 9: functions are numbered in visiting order, and table 5 has each one's parent.
-ghost use Rattle.std.specs.Prelude.{◌≡◌, ◌<◌, ◌≤◌, get_or, replicate};
+ghost use Rattle.std.specs.Prelude.{◌≡◌, ℕ, ◌<◌, ◌≤◌, get_or, replicate};
 ghost use Rattle.tables.specs.Record.{words, size as size_of};
 ghost use Rattle.tables.specs.Naming.{Joined};
+ghost use Rattle.tables.specs.Kinds.{kind_of};
 ghost use Rattle.tables.specs.Scratch.{Handed};
 ghost use Rattle.tables.specs.Numbering.{manner as manner_by, numbering as numbering_of};
-ghost use Rattle.tables.specs.Counting.{plus as plus_of, own as own_of, shift as shift_of, offset as offset_of, tally, tally_left, Tallied};
+ghost use Rattle.tables.specs.Counting.{plus as plus_of, own as own_of, shift as shift_of, offset as offset_of, blank, alls, lefts, tally, tally_left, Tallied};
 ghost use Rattle.tables.specs.Counting.{start_of, base_down, caller_down, caller_word, wrong};
 
-use crate::semantic::NONE;
-use crate::{ast, kind, scratch};
+use crate::kind::Kind;
+use crate::semantic::{NONE, entry, pairs};
+use crate::{ast, scratch};
 
 // How a record's children are visited.
-#[derive(Clone, Copy)]
+#[derive(Clone, Copy, Debug, PartialEq, Eq)]
 pub enum Manner {
     Stored,
     RightFirst,
     RightThenBack,
 }
 
-fn manner_of(kind: u32) -> Manner
-    ensures { result ≡ manner_by kind }
+#[tactic(auto, unfolding(crate::specs::Numbering::manner))]
+fn manner_of(kind: Kind) -> Manner
+    ensures { (n : ℕ) → kind ≡ kind_of n → result ≡ manner_by n }
 {
     match kind {
-        kind::ASSIGN_MULTI => Manner::RightThenBack,
-        kind::ASSIGN | kind::ASSIGN_UNPACK => Manner::RightFirst,
+        Kind::AssignMulti => Manner::RightThenBack,
+        Kind::Assign | Kind::AssignUnpack => Manner::RightFirst,
         _ => Manner::Stored,
     }
 }
@@ -39,7 +42,7 @@ fn plus(a: u16, b: u16) -> u16
 fn own(recs: &[u32], r: usize) -> u16
     ensures { result ≡ own_of (words recs.now r) }
 {
-    u16::from(ast::kind(recs, r) == kind::FUNCTION)
+    u16::from(ast::kind(recs, r) == Kind::Function)
 }
 
 // The Functions of a forest, and those in its Lefts.
@@ -63,21 +66,22 @@ fn shift(manner: Manner, is_left: bool, siblings: Count, rest: Count, later: Cou
 }
 
 // The Functions of each record's forest: in the record, below it, and in its later siblings. And the same in Lefts alone.
-fn tallied(recs: &[u32], all: &mut [u16; 4096], left: &mut [u16; 4096])
+fn tallied(recs: &[u32], counts: &mut [Count; 4096])
     requires small { size_of recs.now ≤ 4096 }
-    requires all { all.old ≡ replicate 4096 0 }
-    requires left { left.old ≡ replicate 4096 0 }
-    ensures all { Tallied tally recs.now all.new }
-    ensures left { Tallied tally_left recs.now left.new }
+    requires blank { counts.old ≡ replicate 4096 blank }
+    ensures all { Tallied tally recs.now (alls counts.new) }
+    ensures left { Tallied tally_left recs.now (lefts counts.new) }
 {
     for r in (1..ast::size(recs)).rev() {
-        let later = ast::next(recs, r);
-        let whole = plus(own(recs, r), all[ast::first(recs, r)]);
-        all[r] = plus(whole, all[later]);
-        left[r] = if ast::kind(recs, r) == kind::LEFT {
-            plus(whole, left[later])
-        } else {
-            left[later]
+        let later = counts[ast::next(recs, r)];
+        let whole = plus(own(recs, r), counts[ast::first(recs, r)].all);
+        counts[r] = Count {
+            all: plus(whole, later.all),
+            left: if ast::kind(recs, r) == Kind::Left {
+                plus(whole, later.left)
+            } else {
+                later.left
+            },
         };
     }
 }
@@ -86,44 +90,32 @@ fn tallied(recs: &[u32], all: &mut [u16; 4096], left: &mut [u16; 4096])
 #[derive(Clone, Copy)]
 struct Counts<'r, 'a> {
     recs: &'r [u32],
-    all: &'a [u16; 4096],
-    left: &'a [u16; 4096],
+    tally: &'a [Count; 4096],
     up: &'a [u16; 4096],
     ghost few: { size_of recs.now ≤ 4096 },
 }
 
 impl Counts<'_, '_> {
-    fn count(&self, x: usize) -> Count
-        requires { x < 4096 }
-        ensures all { result.all ≡ get_or self.now.all.now x 0 }
-        ensures left { result.left ≡ get_or self.now.left.now x 0 }
-    {
-        Count {
-            all: self.all[x],
-            left: self.left[x],
-        }
-    }
-
     // How many functions are visited before record x, since its parent.
     fn offset(&self, x: usize) -> u16
         requires { x < 4096 }
-        ensures { let c = self.now in result ≡ offset_of c.recs.now c.all.now c.left.now c.up.now x }
+        ensures { let c = self.now in result ≡ offset_of c.recs.now (alls c.tally.now) (lefts c.tally.now) c.up.now x }
     {
         if x == 0 {
             return 0;
         }
         let parent = self.up[x] as usize;
         let manner = manner_of(ast::kind(self.recs, parent));
-        let is_left = ast::kind(self.recs, x) == kind::LEFT;
-        let siblings = self.count(ast::first(self.recs, parent));
-        let later = self.count(ast::next(self.recs, x));
-        shift(manner, is_left, siblings, self.count(x), later)
+        let is_left = ast::kind(self.recs, x) == Kind::Left;
+        let siblings = self.tally[ast::first(self.recs, parent)];
+        let later = self.tally[ast::next(self.recs, x)];
+        shift(manner, is_left, siblings, self.tally[x], later)
     }
 
     // Where each record's siblings begin their numbers, handed down from their parent.
     fn bases(&self) -> [u16; 4096]
         ensures { let c = self.now in Joined c.recs.now
-            → Handed (base_down c.recs.now c.all.now c.left.now c.up.now)
+            → Handed (base_down c.recs.now (alls c.tally.now) (lefts c.tally.now) c.up.now)
             c.recs.now 0 (size_of c.recs.now) result }
     {
         scratch::handed_down(self.recs, 0, |r, v| {
@@ -135,7 +127,7 @@ impl Counts<'_, '_> {
     fn start(&self, base: &[u16; 4096], x: usize) -> u16
         requires { x < 4096 }
         ensures { let c = self.now in
-            result ≡ start_of c.recs.now c.all.now c.left.now c.up.now base.now x }
+            result ≡ start_of c.recs.now (alls c.tally.now) (lefts c.tally.now) c.up.now base.now x }
     {
         plus(base[x], self.offset(x))
     }
@@ -143,11 +135,11 @@ impl Counts<'_, '_> {
     // The function around each record, one more than its number, 0 for none.
     fn callers(&self, base: &[u16; 4096]) -> [u16; 4096]
         ensures { let c = self.now in Joined c.recs.now
-            → Handed (caller_down c.recs.now c.all.now c.left.now c.up.now base.now)
+            → Handed (caller_down c.recs.now (alls c.tally.now) (lefts c.tally.now) c.up.now base.now)
             c.recs.now 0 (size_of c.recs.now) result }
     {
         scratch::handed_down(self.recs, 0, |r, v| {
-            if ast::kind(self.recs, r) == kind::FUNCTION {
+            if ast::kind(self.recs, r) == Kind::Function {
                 plus(self.start(base, r), 1)
             } else {
                 v
@@ -159,13 +151,13 @@ impl Counts<'_, '_> {
     fn is_wrong(&self, base: &[u16; 4096], funs: &[u32], r: usize, v: u16) -> bool
         requires { r < 4096 }
         ensures { let c = self.now in result ≡ wrong c.recs.now funs.now r
-            (start_of c.recs.now c.all.now c.left.now c.up.now base.now r) v }
+            (start_of c.recs.now (alls c.tally.now) (lefts c.tally.now) c.up.now base.now r) v }
     {
-        if ast::kind(self.recs, r) != kind::FUNCTION {
+        if ast::kind(self.recs, r) != Kind::Function {
             return false;
         }
         let start = self.start(base, r) as u32;
-        let parent = funs.get(start as usize * 2).copied().unwrap_or(0);
+        let parent = entry(funs, start as usize * 2);
         ast::p(self.recs, r) != start || parent != caller_word(v)
     }
 }
@@ -174,7 +166,7 @@ impl Counts<'_, '_> {
 fn caller_word(v: u16) -> u32
     ensures { result ≡ caller_word v }
 {
-    if v == 0 { NONE } else { v as u32 - 1 }
+    u32::from(v).checked_sub(1).unwrap_or(NONE)
 }
 
 pub fn numbering(recs: &[u32], funs: &[u32]) -> Option<usize>
@@ -184,18 +176,16 @@ pub fn numbering(recs: &[u32], funs: &[u32]) -> Option<usize>
     if 4096 < n {
         return None;
     }
-    let mut all = [0u16; 4096];
-    let mut left = [0u16; 4096];
-    tallied(recs, &mut all, &mut left);
-    let total = plus(own(recs, 0), all[ast::first(recs, 0)]);
-    if funs.len() / 2 != total as usize {
+    let mut tally = [Count { all: 0, left: 0 }; 4096];
+    tallied(recs, &mut tally);
+    let total = plus(own(recs, 0), tally[ast::first(recs, 0)].all);
+    if pairs(funs) != total as usize {
         return Some(0);
     }
     let up = scratch::handed_down(recs, 0, |r, _| r as u16);
     let counts = Counts {
         recs,
-        all: &all,
-        left: &left,
+        tally: &tally,
         up: &up,
     };
     let base = counts.bases();

@@ -3,7 +3,7 @@ ghost use Rattle.std.specs.Prelude.{◌≡◌};
 ghost use Rattle.tables.specs.Refusal.{record_number, run_number, rule_of, number_of, place_of};
 
 // The rules that a record breaks: numbers 4 to 9.
-#[derive(Clone, Copy)]
+#[derive(Clone, Copy, Debug, PartialEq, Eq)]
 pub enum RecordRule {
     Detail,
     Link,
@@ -14,7 +14,7 @@ pub enum RecordRule {
 }
 
 // The rules that a run meets broken: numbers 10 to 16.
-#[derive(Clone, Copy)]
+#[derive(Clone, Copy, Debug, PartialEq, Eq)]
 pub enum RunRule {
     Reference,
     Load,
@@ -26,7 +26,7 @@ pub enum RunRule {
 }
 
 // A refusal holds where it arose: a lent table, an output space, a table's entry, a record, or a record met in the run.
-#[derive(Clone, Copy)]
+#[derive(Clone, Copy, Debug, PartialEq, Eq)]
 pub enum Refusal {
     Table(usize),
     Space(usize),
@@ -100,11 +100,8 @@ impl Refusal {
         ensures { result ≡ place_of self }
     {
         match self {
-            Refusal::Table(at) => at,
-            Refusal::Space(at) => at,
-            Refusal::Entry(at) => at,
-            Refusal::Record(_, at) => at,
-            Refusal::Run(_, at) => at,
+            Refusal::Table(at) | Refusal::Space(at) | Refusal::Entry(at) => at,
+            Refusal::Record(_, at) | Refusal::Run(_, at) => at,
         }
     }
 }

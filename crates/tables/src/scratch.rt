@@ -7,7 +7,7 @@ ghost use Rattle.tables.specs.Scratch.{Handed, Computes};
 use crate::ast;
 
 // Values handed along the links: record 0 has `top`, a first child what `down` makes of its parent and the parent's value, a sibling the same as its elder.
-pub fn handed_down<F: Fn(usize, u16) -> u16>(recs: &[u32], top: u16, down: F) -> [u16; 4096]
+pub(crate) fn handed_down<F: Fn(usize, u16) -> u16>(recs: &[u32], top: u16, down: F) -> [u16; 4096]
     requires small { size_of recs.now ≤ 4096 }
     requires callable { (r v : ℕ) → r < 4096 → F.pre down r v }
     ensures { (f : ℕ → ℕ → ℕ) → Computes (F.post down) f → Joined recs.now

@@ -3,6 +3,9 @@ ghost use Rattle.std.specs.Prelude.{◌≡◌, ◌+◌, ◌^◌, ◌<◌, min, g
 ghost use Rattle.tables.specs.Semantic.{pair as pair_of, pairs as pairs_of, string_offset, string_length, text_of};
 ghost use Rattle.tables.specs.Semantic.{symbol_kind, symbol_name, symbol_of, parent_of, member_count, share_start, share};
 
+use crate::lent::Tables;
+use crate::slices::{front, rest};
+
 // No function, or no name.
 pub const NONE: u32 = 0xffff_ffff;
 
@@ -79,21 +82,19 @@ pub fn member_count(functions: &[u32], f: usize) -> u32
 }
 
 // The bytes of string s.
-pub fn text<'a>(strings: &[u32], bytes: &'a [u8], s: usize) -> &'a [u8]
-    ensures { result.now ≡ text_of strings.now bytes.now s }
+pub fn text<'a>(tables: &Tables<'a>, s: usize) -> &'a [u8]
+    ensures { result.now ≡ text_of tables.now.strings.now tables.now.bytes.now s }
 {
-    let offset = string_offset(strings, s) as usize;
-    let size = string_length(strings, s) as usize;
-    let from = offset.min(bytes.len());
-    let to = (from + size).min(bytes.len());
-    &bytes[from..to]
+    let offset = string_offset(tables.strings, s) as usize;
+    let size = string_length(tables.strings, s) as usize;
+    front(rest(tables.bytes, offset), size)
 }
 
 // Byte i of string s.
-pub fn byte(strings: &[u32], bytes: &[u8], s: usize, i: usize) -> u8
-    ensures { result ≡ get_or (text_of strings.now bytes.now s) i 0 }
+pub fn byte(tables: &Tables, s: usize, i: usize) -> u8
+    ensures { result ≡ get_or (text_of tables.now.strings.now tables.now.bytes.now s) i 0 }
 {
-    text(strings, bytes, s).get(i).copied().unwrap_or(0)
+    text(tables, s).get(i).copied().unwrap_or(0)
 }
 
 // A length with a count added, no more than the limit.

@@ -1,12 +1,11 @@
 // Replays cases of the checks: for each case of the input seven lengths and the words of tables 1 to 7, answered by `ok` or a refusal's number and place.
 #![tactic(auto)]
 
-use replay::case::{Case, Cases, narrowed};
-use replay::input::read;
+use replay::case::{Case, narrowed};
 use replay::print::{refused, unreadable};
+use replay::run::each_case;
 use std::io;
 use tables::check::check;
-use tables::lent::Tables;
 use tables::refusal::Refusal;
 
 // A case has so many numbers before its tables.
@@ -26,27 +25,10 @@ fn one(rt: &(impl Print + AllocGlobal), case: Case) -> io::Result<()> {
     let Some(bytes) = narrowed(rt.alloc(), case.table(1), BYTES)? else {
         return unreadable(rt);
     };
-    let checked = check(&Tables {
-        strings: case.table(0),
-        bytes: &bytes,
-        symbols: case.table(2),
-        references: case.table(3),
-        functions: case.table(4),
-        members: case.table(5),
-        records: case.table(6),
-    });
+    let checked = check(&case.tables(&bytes));
     answer(rt, checked)
 }
 
 fn main(rt: HostRuntime) -> io::Result<()> {
-    let Some(words) = read(&rt)? else {
-        return unreadable(&rt);
-    };
-    for case in Cases::new(&words, NUMBERS) {
-        match case {
-            Some(case) => one(&rt, case)?,
-            None => unreadable(&rt)?,
-        }
-    }
-    Ok(())
+    each_case(&rt, NUMBERS, "", |case| one(&rt, case))
 }

@@ -104,12 +104,6 @@ falls_rank n r j k t e ne lt = omega (arith, level_some n r k ne)
 pub falls_some : (n r j k t : ℕ) → level_or n r k ≡ t → (r ≡ 0 → ⊥) → j < k → level_or n r j < t
 falls_some n r j k t e ne lt = omega (arith, level_some n r k ne, level_some n r j ne)
 
-pub falls_rank2 : (n r j k t : ℕ) → level n r k ≡ t → j < k → level n r j < t
-falls_rank2 n r j k t e lt = omega arith
-
-pub falls_or : (n r j k t : ℕ) → level n r k ≡ t → j < k → level_or n r j < t
-falls_or n r j k t e lt = ⊎_elim (λ z. omega (arith, level_none n r j z)) (λ z. omega (arith, level_some n r j z)) (zero_or r)
-
 -- a child of a record that is there
 pub falls_below : (n r x j k t : ℕ) → level_or n r (suc k) ≡ t → (r ≡ 0 → ⊥) → j < 16 → Linked n r x → level_or n x j < t
 falls_below n r x j k t e ne lt l = falls_to n r x j k t (sym (level_some n r (suc k) ne) ∙ e) lt l

@@ -16,6 +16,7 @@ use Rattle.tables.proofs.ForestLaws.{forest_absent, forest_record}
 use Rattle.pool.specs.Value.{Null, child}
 use Rattle.rules.specs.declared.StackCode.{StackCode}
 use Rattle.rules.specs.declared.StackCode.TheVariants.{Code1, Code2}
+use Rattle.rules.specs.declared.error.ErrorKind.TheVariants.{ReturnOutsideFunction}
 use Rattle.rules.specs.declared.Flow.TheVariants.{Cut, Refused}
 use Rattle.rules.specs.Marker as rule
 use Rattle.rules.specs.Marker.{Forward, Jump, JumpIfTrueOrPop, JumpIfFalseOrPop, LoadConst, Code, Pop, Copy, Call, Return, MarkAddStackSize, Label, To, Load, Do, mark}
@@ -376,7 +377,7 @@ module _ (e : Lent) (c : Walk) (r : ℕ) where
   ret_barred q A = go (is_tail K)
     where
       still : is_go (flow (checked A)) ≡ false
-      still = ap (λ (b : Bool). is_go (flow (barred W b A))) q ∙ halt_not (Cut 2 W.start W.end) A refl
+      still = ap (λ (b : Bool). is_go (flow (barred W b A))) q ∙ halt_not (Cut ReturnOutsideFunction W.start W.end) A refl
 
       go : (b : Bool) → does e c r (cond b (check_return ∷ return_label c.code (visit pass Tail 0 ∷ null ∷ []))
           (check_return ∷ return_label c.code (expr 0 ∷ push_op Return 0 ∷ null ∷ []))) A ≡ checked A

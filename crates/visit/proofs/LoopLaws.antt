@@ -79,9 +79,6 @@ module _ (e : Lent) (a n : ℕ) where
     pub none : a ≡ 0 → l ≡ 0
     pub work : Remains e w (λ c. through e c Expr n a) w' (λ c. through e c Expr i l)
 
-  pub all_start : (w : Context) → All w w a n
-  all_start w = record { along = inr (omega arith); none = λ q. q; work = all_left (λ c z A. refl) }
-
   module _ {w w' : Context} {l i : ℕ} (h : All w w' l i) where
     pub all_again : {w'' : Context} {x j : ℕ} → 0 < i → (l ≡ 0 → ⊥) → x ≡ next e.records l → j ≡ i - 1
         → Sim e w' w'' (λ c. visit_in e c Expr l) → All w w'' x j

@@ -1,7 +1,6 @@
 // The visitors: visit_expr and all that it reaches, one cycle of calls with the records left falling at each call. Record 0 stands for an absent one.
 #![tactic(auto)]
 
-ghost use Rattle.rules.specs.Marker.{JumpIfFalseOrPop, JumpIfTrueOrPop};
 ghost use Rattle.rules.specs.Step.{Expr, Callee, Target, Before};
 ghost use Rattle.rules.specs.Arms.{block_steps, fn_steps, stream_steps, table_steps, list_steps, binary_steps, short_steps, member_steps, call_steps, if_steps, loop_steps};
 ghost use Rattle.rules.specs.Arms.{while_steps, for_steps, return_steps, import_steps, glo_assign_steps, assign_steps, assign_op_steps, short_assign_steps};
@@ -23,7 +22,7 @@ use opcode::opcode::OpCode;
 use opcode::operator::BinOp;
 use pattern::cases::patterns;
 use plain::assign::{after, copies};
-use plain::children::{argument_count, arguments_len, is_tail, less, name_of, params_len};
+use plain::children::{argument_count, arguments_len, is_tail, name_of, params_len};
 use plain::import::{import_item, simple};
 use plain::leaf::{break_loop, continue_loop, effect, params, push_return_label, registers};
 use plain::loops::{end_for, iterate, targets};
@@ -38,10 +37,11 @@ use plain::operator::{
 use plain::siblings::{nth, width};
 use pool::notes::earlier;
 use pool::value::ConstValue;
-use rules::error;
-use tables::ast::{detail, first, kind, next, p, q};
+use rules::error::ErrorKind;
+use tables::ast::{detail, first, flag, function_kind, import_kind, kind, next, p, q};
+use tables::detail;
+use tables::kind::{FunctionKind, ImportKind, Kind};
 use tables::refusal::RunRule;
-use tables::{detail, kind};
 
 // visit_expr
 #[cycle(visitors)]
@@ -52,25 +52,25 @@ pub fn expr(tree: &Tree, cx: &mut Context, r: usize)
         return;
     }
     match kind(tree.records, r) {
-        kind::LIT => cx.push_lit(tree.records, r),
-        kind::IDENT => cx.load(tree.notes, r),
-        kind::PAREN => expr(tree, cx, first(tree.records, r)),
-        kind::BLOCK => block(tree, cx, r),
-        kind::FN => func(tree, cx, r),
-        kind::EFFECT => effect(tree, cx, r),
-        kind::TABLE => table(tree, cx, r),
-        kind::LIST => list(tree, cx, r),
-        kind::UNARY => {
+        Kind::Lit => cx.push_lit(tree.records, r),
+        Kind::Ident => cx.load(tree.notes, r),
+        Kind::Paren => expr(tree, cx, first(tree.records, r)),
+        Kind::Block => block(tree, cx, r),
+        Kind::Fn => func(tree, cx, r),
+        Kind::Effect => effect(tree, cx, r),
+        Kind::Table => table(tree, cx, r),
+        Kind::List => list(tree, cx, r),
+        Kind::Unary => {
             expr(tree, cx, first(tree.records, r));
             push_unary(cx, unary_operator(tree.records, r))
         }
-        kind::BINARY => binary(tree, cx, r),
-        kind::TYPE_CHECK => {
+        Kind::Binary => binary(tree, cx, r),
+        Kind::TypeCheck => {
             expr(tree, cx, first(tree.records, r));
-            cx.push_op(OpCode::TypeCheck(detail(tree.records, r)))
+            cx.push_code(OpCode::TypeCheck(detail(tree.records, r)))
         }
-        kind::MEMBER => member(tree, cx, r),
-        kind::CALL => call(tree, cx, r, false),
+        Kind::Member => member(tree, cx, r),
+        Kind::Call => call(tree, cx, r, false),
         _ => arm(tree, cx, r),
     }
 }
@@ -81,20 +81,20 @@ fn arm(tree: &Tree, cx: &mut Context, r: usize)
     ensures { Follows tree cx r later_steps }
 {
     match kind(tree.records, r) {
-        kind::IF => cond(tree, cx, r),
-        kind::MATCH => cases(tree, cx, r),
-        kind::LOOP => repeat(tree, cx, r),
-        kind::WHILE => whilst(tree, cx, r),
-        kind::FOR => each(tree, cx, r),
-        kind::BREAK => break_loop(tree, cx, r),
-        kind::CONTINUE => continue_loop(tree, cx, r),
-        kind::RETURN => ret(tree, cx, r),
-        kind::IMPORT => import(tree, cx, r),
-        kind::GLO_ASSIGN => glo(tree, cx, r),
-        kind::ASSIGN => assign(tree, cx, r),
-        kind::ASSIGN_OP => update(tree, cx, r),
-        kind::ASSIGN_UNPACK => unpack(tree, cx, r),
-        kind::ASSIGN_MULTI => multi(tree, cx, r),
+        Kind::If => cond(tree, cx, r),
+        Kind::Match => cases(tree, cx, r),
+        Kind::Loop => repeat(tree, cx, r),
+        Kind::While => whilst(tree, cx, r),
+        Kind::For => each(tree, cx, r),
+        Kind::Break => break_loop(tree, cx, r),
+        Kind::Continue => continue_loop(tree, cx, r),
+        Kind::Return => ret(tree, cx, r),
+        Kind::Import => import(tree, cx, r),
+        Kind::GloAssign => glo(tree, cx, r),
+        Kind::Assign => assign(tree, cx, r),
+        Kind::AssignOp => update(tree, cx, r),
+        Kind::AssignUnpack => unpack(tree, cx, r),
+        Kind::AssignMulti => multi(tree, cx, r),
         _ => rest(tree, cx, r),
     }
 }
@@ -105,17 +105,17 @@ fn rest(tree: &Tree, cx: &mut Context, r: usize)
     ensures { Follows tree cx r last_steps }
 {
     match kind(tree.records, r) {
-        kind::FUNCTION => {
+        Kind::Function => {
             inner(tree, cx, r);
             let function_id = function_id(tree.records, r);
             cx.push_load_const(tree.records, ConstValue::Function(function_id));
-            if detail(tree.records, r) == detail::DO {
-                cx.push_op(OpCode::Call(0))
+            if function_kind(tree.records, r) == FunctionKind::Do {
+                cx.push_code(OpCode::Call(0))
             }
         }
-        kind::PARAMS => params(tree, cx, r),
-        kind::HANDLER => catch(tree, cx, r),
-        kind::CASE => {
+        Kind::Params => params(tree, cx, r),
+        Kind::Handler => catch(tree, cx, r),
+        Kind::Case => {
             let body = nth(
                 tree.records,
                 first(tree.records, r),
@@ -123,7 +123,7 @@ fn rest(tree: &Tree, cx: &mut Context, r: usize)
             );
             expr(tree, cx, body)
         }
-        kind::ITEM => import_item(tree, cx, r),
+        Kind::Item => import_item(tree, cx, r),
         _ => {}
     }
 }
@@ -157,12 +157,12 @@ pub fn body(tree: &Tree, cx: &mut Context, r: usize)
     let block = next(tree.records, params);
     expr(tree, cx, params);
     expr(tree, cx, block);
-    if detail(tree.records, r) == detail::DO {
-        cx.push_op(OpCode::Pop);
-        cx.push_op(OpCode::LoadLocals);
-        return cx.push_op(OpCode::Return);
+    if function_kind(tree.records, r) == FunctionKind::Do {
+        cx.push_code(OpCode::Pop);
+        cx.push_code(OpCode::LoadLocals);
+        return cx.push_code(OpCode::Return);
     }
-    cx.push_op(OpCode::Return)
+    cx.push_code(OpCode::Return)
 }
 
 // visit_block: an expression's error is kept.
@@ -181,7 +181,7 @@ fn block(tree: &Tree, cx: &mut Context, r: usize)
         if child == 0 {
             return;
         }
-        cx.push_op(OpCode::Pop);
+        cx.push_code(OpCode::Pop);
     }
 }
 
@@ -205,7 +205,7 @@ fn all(tree: &Tree, cx: &mut Context, item: usize, n: usize)
 fn func(tree: &Tree, cx: &mut Context, r: usize)
     ensures { Follows tree cx r (λ sc. fn_steps) }
 {
-    if detail(tree.records, r) != detail::NAMED {
+    if !flag(tree.records, r) {
         return expr(tree, cx, first(tree.records, r));
     }
     let name = first(tree.records, r);
@@ -223,7 +223,7 @@ fn table(tree: &Tree, cx: &mut Context, r: usize)
     let properties = first(tree.records, r);
     let n = width(tree.records, properties);
     all(tree, cx, properties, n);
-    cx.push_op(OpCode::BuildTable(capped(n / 2)))
+    cx.push_code(OpCode::BuildTable(capped(n / 2)))
 }
 
 // ExprKind::List
@@ -234,7 +234,7 @@ fn list(tree: &Tree, cx: &mut Context, r: usize)
     let items = first(tree.records, r);
     let n = width(tree.records, items);
     all(tree, cx, items, n);
-    cx.push_op(OpCode::BuildList(capped(n)))
+    cx.push_code(OpCode::BuildList(capped(n)))
 }
 
 // ExprKind::Binary
@@ -244,8 +244,8 @@ fn binary(tree: &Tree, cx: &mut Context, r: usize)
 {
     let operator = binary_operator(tree.records, r);
     match operator {
-        BinOp::And => and(tree, cx, r),
-        BinOp::Or => or(tree, cx, r),
+        BinOp::And => short_circuit(tree, cx, r, BinOp::And),
+        BinOp::Or => short_circuit(tree, cx, r, BinOp::Or),
         _ => {
             let left = first(tree.records, r);
             let right = next(tree.records, left);
@@ -256,30 +256,16 @@ fn binary(tree: &Tree, cx: &mut Context, r: usize)
     }
 }
 
-// BinOp::And
+// BinOp::And or BinOp::Or
 #[cycle(visitors)]
-fn and(tree: &Tree, cx: &mut Context, r: usize)
-    ensures { Follows tree cx r (λ sc w k. short_steps JumpIfFalseOrPop) }
+fn short_circuit(tree: &Tree, cx: &mut Context, r: usize, operator: BinOp)
+    ensures { Follows tree cx r (λ sc w k. short_steps (short_jump operator)) }
 {
     let left = first(tree.records, r);
     let right = next(tree.records, left);
     let label = cx.get_label();
     expr(tree, cx, left);
-    cx.push_op(OpCode::JumpIfFalseOrPop(label));
-    expr(tree, cx, right);
-    cx.push_label(label)
-}
-
-// BinOp::Or
-#[cycle(visitors)]
-fn or(tree: &Tree, cx: &mut Context, r: usize)
-    ensures { Follows tree cx r (λ sc w k. short_steps JumpIfTrueOrPop) }
-{
-    let left = first(tree.records, r);
-    let right = next(tree.records, left);
-    let label = cx.get_label();
-    expr(tree, cx, left);
-    cx.push_op(OpCode::JumpIfTrueOrPop(label));
+    push_short_jump(cx, operator, label);
     expr(tree, cx, right);
     cx.push_label(label)
 }
@@ -337,8 +323,8 @@ fn call(tree: &Tree, cx: &mut Context, r: usize, tail: bool)
     }
     let end_label = cx.get_label();
     let handler_label = registers(tree, cx, handlers);
-    cx.push_op(OpCode::Call(argument_count));
-    cx.push_op(OpCode::Jump(end_label));
+    cx.push_code(OpCode::Call(argument_count));
+    cx.push_code(OpCode::Jump(end_label));
     bodies(tree, cx, handlers, handler_label, end_label);
     cx.push_label(end_label)
 }
@@ -358,17 +344,17 @@ fn called(tree: &Tree, cx: &mut Context, callee: usize)
     let property = property_of(tree.records, callee);
     expr(tree, cx, table);
     if is_unlabelled(tree, cx, callee) {
-        cx.push_op(OpCode::Copy(1));
+        cx.push_code(OpCode::Copy(1));
         prop(tree, cx, callee, property);
         push_get(cx, property);
-        return cx.push_op(OpCode::Swap(2));
+        return cx.push_code(OpCode::Swap(2));
     }
     let safe_label = cx.get_label();
     push_safe_jump(tree, cx, callee, safe_label);
-    cx.push_op(OpCode::Copy(1));
+    cx.push_code(OpCode::Copy(1));
     prop(tree, cx, callee, property);
     push_get(cx, property);
-    cx.push_op(OpCode::Swap(2));
+    cx.push_code(OpCode::Swap(2));
     cx.push_label(safe_label)
 }
 
@@ -382,7 +368,7 @@ fn bodies(tree: &Tree, cx: &mut Context, first: usize, first_label: LabelId, end
     while at != 0 {
         cx.push_label(label);
         expr(tree, cx, at);
-        cx.push_op(OpCode::Jump(end_label));
+        cx.push_code(OpCode::Jump(end_label));
         at = next(tree.records, at);
         label = next_label(label);
     }
@@ -398,7 +384,7 @@ fn catch(tree: &Tree, cx: &mut Context, handler: usize)
     let body = next(tree.records, params);
     let value = ConstValue::Effect(capped(handler));
     cx.push_load_const(tree.records, value);
-    cx.push_op(OpCode::CheckEffect(params_len(tree.records, params)));
+    cx.push_code(OpCode::CheckEffect(params_len(tree.records, params)));
     expr(tree, cx, params);
     expr(tree, cx, body)
 }
@@ -413,11 +399,11 @@ fn cond(tree: &Tree, cx: &mut Context, r: usize)
     let false_label = cx.get_label();
     let end_label = cx.get_label();
     expr(tree, cx, test);
-    cx.push_op(OpCode::PopJumpIfFalse(false_label));
+    cx.push_code(OpCode::PopJumpIfFalse(false_label));
     expr(tree, cx, consequent);
-    cx.push_op(OpCode::Jump(end_label));
+    cx.push_code(OpCode::Jump(end_label));
     cx.push_label(false_label);
-    if detail(tree.records, r) == detail::WITH_ELSE {
+    if flag(tree.records, r) {
         let alternate = next(tree.records, consequent);
         expr(tree, cx, alternate);
         return cx.push_label(end_label);
@@ -442,11 +428,11 @@ fn cases(tree: &Tree, cx: &mut Context, r: usize)
     let block_label = cx.get_labels(width(tree.records, cases));
     patterns(tree, cx, cases, block_label);
     cx.push_null(tree.records);
-    cx.push_op(OpCode::Jump(end_label));
+    cx.push_code(OpCode::Jump(end_label));
     bodies(tree, cx, cases, block_label, end_label);
     cx.push_label(end_label);
-    cx.push_op(OpCode::Swap(2));
-    cx.push_op(OpCode::Pop)
+    cx.push_code(OpCode::Swap(2));
+    cx.push_code(OpCode::Pop)
 }
 
 // ExprKind::Loop
@@ -460,8 +446,8 @@ fn repeat(tree: &Tree, cx: &mut Context, r: usize)
     cx.begin_loop(continue_label);
     cx.push_label(continue_label);
     expr(tree, cx, body);
-    cx.push_op(OpCode::Pop);
-    cx.push_op(OpCode::JumpBackEdge(continue_label));
+    cx.push_code(OpCode::Pop);
+    cx.push_code(OpCode::JumpBackEdge(continue_label));
     cx.push_label(break_label);
     cx.push_null(tree.records);
     cx.end_loop()
@@ -479,10 +465,10 @@ fn whilst(tree: &Tree, cx: &mut Context, r: usize)
     cx.begin_loop(continue_label);
     cx.push_label(continue_label);
     expr(tree, cx, test);
-    cx.push_op(OpCode::PopJumpIfFalse(break_label));
+    cx.push_code(OpCode::PopJumpIfFalse(break_label));
     expr(tree, cx, body);
-    cx.push_op(OpCode::Pop);
-    cx.push_op(OpCode::JumpBackEdge(continue_label));
+    cx.push_code(OpCode::Pop);
+    cx.push_code(OpCode::JumpBackEdge(continue_label));
     cx.push_label(break_label);
     cx.push_null(tree.records);
     cx.end_loop()
@@ -503,10 +489,10 @@ fn each(tree: &Tree, cx: &mut Context, r: usize)
     cx.begin_loop(continue_label);
     expr(tree, cx, right);
     iterate(tree, cx, continue_label, body_label);
-    cx.push_op(OpCode::Jump(break_label));
+    cx.push_code(OpCode::Jump(break_label));
     cx.push_label(body_label);
-    cx.push_op(OpCode::MarkAddStackSize(3));
-    cx.push_op(OpCode::Pop);
+    cx.push_code(OpCode::MarkAddStackSize(3));
+    cx.push_code(OpCode::Pop);
     targets(tree, cx, left, n);
     expr(tree, cx, body);
     end_for(tree, cx, continue_label, break_label)
@@ -518,7 +504,7 @@ fn ret(tree: &Tree, cx: &mut Context, r: usize)
     ensures { Follows tree cx r return_steps }
 {
     if cx.is_in_do(tree.records) {
-        return cx.cut(tree.records, error::RETURN_OUTSIDE_FUNCTION, r);
+        return cx.cut(tree.records, ErrorKind::ReturnOutsideFunction, r);
     }
     let argument = first(tree.records, r);
     push_return_label(cx);
@@ -527,7 +513,7 @@ fn ret(tree: &Tree, cx: &mut Context, r: usize)
         return cx.push_null(tree.records);
     }
     expr(tree, cx, argument);
-    cx.push_op(OpCode::Return);
+    cx.push_code(OpCode::Return);
     cx.push_null(tree.records)
 }
 
@@ -537,23 +523,23 @@ fn import(tree: &Tree, cx: &mut Context, r: usize)
     ensures { Follows tree cx r (λ sc. import_steps) }
 {
     cx.push_import(tree.records, q(tree.records, r));
-    match detail(tree.records, r) {
-        detail::SIMPLE | detail::WITH_ALIAS => {
+    match import_kind(tree.records, r) {
+        ImportKind::Simple | ImportKind::WithAlias => {
             simple(tree, cx, r);
             cx.push_null(tree.records)
         }
-        detail::ITEMS => {
+        ImportKind::Items => {
             let items = nth(
                 tree.records,
                 first(tree.records, r),
                 p(tree.records, r) as usize,
             );
             all(tree, cx, items, width(tree.records, items));
-            cx.push_op(OpCode::Pop);
+            cx.push_code(OpCode::Pop);
             cx.push_null(tree.records)
         }
-        _ => {
-            cx.push_op(OpCode::ImportGlob);
+        ImportKind::Glob => {
+            cx.push_code(OpCode::ImportGlob);
             cx.push_null(tree.records)
         }
     }
@@ -591,7 +577,7 @@ fn target(tree: &Tree, cx: &mut Context, left: usize)
     if left == 0 {
         return;
     }
-    if kind(tree.records, left) != kind::LEFT {
+    if kind(tree.records, left) != Kind::Left {
         return;
     }
     let ident = first(tree.records, left);
@@ -647,7 +633,7 @@ fn fetch(tree: &Tree, cx: &mut Context, left: usize)
     if left == 0 {
         return;
     }
-    if kind(tree.records, left) != kind::LEFT {
+    if kind(tree.records, left) != Kind::Left {
         return;
     }
     cx.load(tree.notes, first(tree.records, left));
@@ -656,12 +642,12 @@ fn fetch(tree: &Tree, cx: &mut Context, left: usize)
     }
     let property = left_property(tree.records, left);
     if is_meta(property) {
-        cx.push_op(OpCode::Copy(1));
+        cx.push_code(OpCode::Copy(1));
         return push_get(cx, property);
     }
     prop(tree, cx, left, property);
-    cx.push_op(OpCode::Copy(2));
-    cx.push_op(OpCode::Copy(2));
+    cx.push_code(OpCode::Copy(2));
+    cx.push_code(OpCode::Copy(2));
     push_get(cx, property)
 }
 
@@ -678,7 +664,7 @@ fn unpack(tree: &Tree, cx: &mut Context, r: usize)
     let mut at = left;
     for i in 0..n {
         cx.push_load_const(tree.records, ConstValue::Int(i, 0));
-        cx.push_op(OpCode::GetItem);
+        cx.push_code(OpCode::GetItem);
         target(tree, cx, at);
         at = next(tree.records, at);
     }
@@ -697,7 +683,7 @@ fn multi(tree: &Tree, cx: &mut Context, r: usize)
     }
     let right = nth(tree.records, left, n);
     all(tree, cx, right, n);
-    let mut at = nth(tree.records, left, less(n));
+    let mut at = nth(tree.records, left, n.saturating_sub(1));
     for _ in 0..n {
         // Never: a Left stands behind its record, and a note names the sibling before it.
         if at <= r {

@@ -1,6 +1,9 @@
-use Prim.Native.Nat.{ℕ, ◌<◌, ◌%◌, ◌-◌, ◌≤◌, ◌+◌, ◌/◌}
+use Rattle.context.proofs.MarkLaws.{sent}
+use Rattle.tables.proofs.KindLaws.{numbered, unlike, other_kind, same_kind, is_do_kind, one_stored, items_stored, stores_one, has_items}
+use Rattle.tables.specs.declared.kind.Kind.TheVariants as kind
+use Prim.Native.Nat.{ℕ, ◌%◌, ◌-◌, ◌+◌, ◌/◌}
 use Rattle.plain.specs.Operators.{is_short}
-use mathlib.Core.Bool.{false}
+use mathlib.Core.Bool.{true, false}
 use mathlib.Core.Path.{refl, ◌∙◌, sym, ap, ap₂, subst, ◌≡◌}
 use native.Mathlib.Omega.{arith}
 use borrow.Author.Rules.{rules}
@@ -9,28 +12,10 @@ use Rattle.tables.specs.Record.{size, word, words}
 use Rattle.tables.specs.Forest.{first, forest, own_tree, Nodes, children}
 use Rattle.context.specs.Rep.{lent}
 use Rattle.visit.proofs.FallLaws.{falls_along, falls_to, child1, child2, falls_next, linked_past, falls_rank, falls_some, falls_below, linked_nth, falls_past, falls_child}
-use Rattle.visit.proofs.LoopLaws.{all_again, all_none, all_end, blocking_start, blocking_last, blocking_again, blocking_still, bodying_start, bodying_again, bodying_end, downing_start, downing_again, downing_end, downing_never, unpacking_start, unpacking_again, unpacking_end}
-use Rattle.rules.specs.Marker.{
-  JumpIfFalseOrPop,
-  Pop,
-  Jump,
-  Return,
-  LoadLocals,
-  Call,
-  Copy,
-  Swap,
-  CheckEffect,
-  PopJumpIfFalse,
-  MarkAddStackSize,
-  TypeCheck,
-  Import,
-  ImportGlob,
-  BuildList,
-  JumpIfTrueOrPop,
-  LoadConst,
-  BuildTable,
-  GetItem,
-}
+use Rattle.visit.proofs.LoopLaws.{all_again, all_none, all_end, blocking_start, blocking_last, blocking_again, blocking_still, bodying_start}
+use Rattle.visit.proofs.LoopLaws.{bodying_again, bodying_end, downing_start, downing_again, downing_end, downing_never, unpacking_start, unpacking_again, unpacking_end}
+use Rattle.rules.specs.Marker.{Pop, Jump, Return, LoadLocals, Call, Copy, Swap, CheckEffect}
+use Rattle.rules.specs.Marker.{PopJumpIfFalse, MarkAddStackSize, TypeCheck, Import, ImportGlob, BuildList, LoadConst, BuildTable, GetItem}
 use Rattle.rules.specs.Step.{Expr, Target, Callee, width, Get, Before, Set, push_op, Tail, After}
 use Rattle.rules.specs.Run.{exec, number_of}
 use Rattle.context.specs.Does.{doing, does, nth, own_stream}
@@ -109,7 +94,7 @@ use Rattle.context.proofs.InsideLaws.{inside_none, inside_still, inside_skipped,
 use mathlib.Core.List.{[], ◌∷◌}
 use Rattle.tables.specs.declared.refusal.RunRule.TheVariants.{Lengths}
 use Rattle.rules.specs.declared.Flow.TheVariants.{Refused}
-use mathlib.Core.Logic.{◌⊎◌}
+use mathlib.Core.Logic.{◌⊎◌, ⊎_elim}
 use Rattle.context.proofs.BarLaws.{in_do, bar_yes, bar_no}
 use mathlib.Core.Bool.{not}
 use Rattle.opcode.specs.declared.operator.BinOp.TheVariants as op
@@ -137,111 +122,91 @@ all-returns t c =
     let le = c.loop-test.false in
     all_end (lent c.args.tree.now) c.args.item c.args.n c.loop.invariant (omega arith)
 
-pub and-expr-requires : goal.and-expr-requires
-and-expr-requires t c =
-    (falls_to (size c.args.tree.now.records.now) c.args.r _ 12 5 t c.decreases (lit< tt) (child1 c.args.tree.now.records.now c.first-left.ensures), tt)
-
-pub and-expr-requires-2 : goal.and-expr-requires-2
-and-expr-requires-2 t c = (
-  falls_to (size c.args.tree.now.records.now) c.args.r _ 12 5 t c.decreases (lit< tt) (child2 c.args.tree.now.records.now c.next-right.ensures (child1 c.args.tree.now.records.now c.first-left.ensures)),
-  tt,
-)
-
-pub and-returns : goal.and-returns
-unfolding does doing exec
-and-returns t c =
-    record {
-      sim = λ z v o₀ A h.
-          let l = label c.get_label-label.ensures h in
-          let h1 = labelled c.get_label-label.ensures h in
-          let h2 = visited z Expr c.first-left.ensures c.expr.ensures h1 in
-          let h3 = jumped c.args.r JumpIfFalseOrPop _ refl l c.push_op.ensures h2 in
-          let h4 = visited z Expr (next_of c.args.tree.now.records.now c.next-right.ensures c.first-left.ensures) c.expr-2.ensures h3 in
-          placed c.args.r _ refl l c.push_label.ensures h4;
-    }
-
-pub arm-returns-in-14 : goal.arm-returns-in-14
-arm-returns-in-14 t c =
-    resim (λ v z A. later_by (lent c.args.tree.now) v c.args.r (sym c.kind.ensures ∙ c.in-14.is) A)
+pub arm-returns-in-If : goal.arm-returns-in-If
+arm-returns-in-If t c =
+    resim (λ v z A. later_by (lent c.args.tree.now) v c.args.r (numbered _ _ kind.If c.kind.ensures c.in-If.is tt) A)
     c.cond.ensures
 
-pub arm-returns-in-15 : goal.arm-returns-in-15
-arm-returns-in-15 t c =
-    resim (λ v z A. later_by (lent c.args.tree.now) v c.args.r (sym c.kind.ensures ∙ c.in-15.is) A)
+pub arm-returns-in-Match : goal.arm-returns-in-Match
+arm-returns-in-Match t c =
+    resim (λ v z A. later_by (lent c.args.tree.now) v c.args.r (numbered _ _ kind.Match c.kind.ensures c.in-Match.is tt) A)
     c.cases.ensures
 
-pub arm-returns-in-16 : goal.arm-returns-in-16
-arm-returns-in-16 t c =
-    resim (λ v z A. later_by (lent c.args.tree.now) v c.args.r (sym c.kind.ensures ∙ c.in-16.is) A)
+pub arm-returns-in-Loop : goal.arm-returns-in-Loop
+arm-returns-in-Loop t c =
+    resim (λ v z A. later_by (lent c.args.tree.now) v c.args.r (numbered _ _ kind.Loop c.kind.ensures c.in-Loop.is tt) A)
     c.repeat.ensures
 
-pub arm-returns-in-17 : goal.arm-returns-in-17
-arm-returns-in-17 t c =
-    resim (λ v z A. later_by (lent c.args.tree.now) v c.args.r (sym c.kind.ensures ∙ c.in-17.is) A)
+pub arm-returns-in-While : goal.arm-returns-in-While
+arm-returns-in-While t c =
+    resim (λ v z A. later_by (lent c.args.tree.now) v c.args.r (numbered _ _ kind.While c.kind.ensures c.in-While.is tt) A)
     c.whilst.ensures
 
-pub arm-returns-in-18 : goal.arm-returns-in-18
-arm-returns-in-18 t c =
-    resim (λ v z A. later_by (lent c.args.tree.now) v c.args.r (sym c.kind.ensures ∙ c.in-18.is) A)
+pub arm-returns-in-For : goal.arm-returns-in-For
+arm-returns-in-For t c =
+    resim (λ v z A. later_by (lent c.args.tree.now) v c.args.r (numbered _ _ kind.For c.kind.ensures c.in-For.is tt) A)
     c.each.ensures
 
-pub arm-returns-in-19 : goal.arm-returns-in-19
-arm-returns-in-19 t c =
-    resim (λ v z A. later_by (lent c.args.tree.now) v c.args.r (sym c.kind.ensures ∙ c.in-19.is) A)
+pub arm-returns-in-Break : goal.arm-returns-in-Break
+arm-returns-in-Break t c =
+    resim (λ v z A. later_by (lent c.args.tree.now) v c.args.r (numbered _ _ kind.Break c.kind.ensures c.in-Break.is tt) A)
     (c.break_loop.ensures c.args.tree.now.notes.now)
 
-pub arm-returns-in-20 : goal.arm-returns-in-20
-arm-returns-in-20 t c =
-    resim (λ v z A. later_by (lent c.args.tree.now) v c.args.r (sym c.kind.ensures ∙ c.in-20.is) A)
+pub arm-returns-in-Continue : goal.arm-returns-in-Continue
+arm-returns-in-Continue t c =
+    resim (λ v z A. later_by (lent c.args.tree.now) v c.args.r (numbered _ _ kind.Continue c.kind.ensures c.in-Continue.is tt) A)
     (c.continue_loop.ensures c.args.tree.now.notes.now)
 
-pub arm-returns-in-21 : goal.arm-returns-in-21
-arm-returns-in-21 t c =
-    resim (λ v z A. later_by (lent c.args.tree.now) v c.args.r (sym c.kind.ensures ∙ c.in-21.is) A)
+pub arm-returns-in-Return : goal.arm-returns-in-Return
+arm-returns-in-Return t c =
+    resim (λ v z A. later_by (lent c.args.tree.now) v c.args.r (numbered _ _ kind.Return c.kind.ensures c.in-Return.is tt) A)
     c.ret.ensures
 
-pub arm-returns-in-22 : goal.arm-returns-in-22
-arm-returns-in-22 t c =
-    resim (λ v z A. later_by (lent c.args.tree.now) v c.args.r (sym c.kind.ensures ∙ c.in-22.is) A)
+pub arm-returns-in-Import : goal.arm-returns-in-Import
+arm-returns-in-Import t c =
+    resim (λ v z A. later_by (lent c.args.tree.now) v c.args.r (numbered _ _ kind.Import c.kind.ensures c.in-Import.is tt) A)
     c.import.ensures
 
-pub arm-returns-in-23 : goal.arm-returns-in-23
-arm-returns-in-23 t c =
-    resim (λ v z A. later_by (lent c.args.tree.now) v c.args.r (sym c.kind.ensures ∙ c.in-23.is) A)
+pub arm-returns-in-GloAssign : goal.arm-returns-in-GloAssign
+arm-returns-in-GloAssign t c =
+    resim (λ v z A. later_by (lent c.args.tree.now) v c.args.r (numbered _ _ kind.GloAssign c.kind.ensures c.in-GloAssign.is tt) A)
     c.glo.ensures
 
-pub arm-returns-in-24 : goal.arm-returns-in-24
-arm-returns-in-24 t c =
-    resim (λ v z A. later_by (lent c.args.tree.now) v c.args.r (sym c.kind.ensures ∙ c.in-24.is) A)
+pub arm-returns-in-Assign : goal.arm-returns-in-Assign
+arm-returns-in-Assign t c =
+    resim (λ v z A. later_by (lent c.args.tree.now) v c.args.r (numbered _ _ kind.Assign c.kind.ensures c.in-Assign.is tt) A)
     c.assign.ensures
 
-pub arm-returns-in-25 : goal.arm-returns-in-25
-arm-returns-in-25 t c =
-    resim (λ v z A. later_by (lent c.args.tree.now) v c.args.r (sym c.kind.ensures ∙ c.in-25.is) A)
+pub arm-returns-in-AssignOp : goal.arm-returns-in-AssignOp
+arm-returns-in-AssignOp t c =
+    resim (λ v z A. later_by (lent c.args.tree.now) v c.args.r (numbered _ _ kind.AssignOp c.kind.ensures c.in-AssignOp.is tt) A)
     c.update.ensures
 
-pub arm-returns-in-26 : goal.arm-returns-in-26
-arm-returns-in-26 t c =
-    resim (λ v z A. later_by (lent c.args.tree.now) v c.args.r (sym c.kind.ensures ∙ c.in-26.is) A)
+pub arm-returns-in-AssignUnpack : goal.arm-returns-in-AssignUnpack
+arm-returns-in-AssignUnpack t c =
+    resim (λ v z A. later_by (lent c.args.tree.now) v c.args.r (numbered _ _ kind.AssignUnpack c.kind.ensures c.in-AssignUnpack.is tt) A)
     c.unpack.ensures
 
-pub arm-returns-in-27 : goal.arm-returns-in-27
-arm-returns-in-27 t c =
-    resim (λ v z A. later_by (lent c.args.tree.now) v c.args.r (sym c.kind.ensures ∙ c.in-27.is) A)
+pub arm-returns-in-AssignMulti : goal.arm-returns-in-AssignMulti
+arm-returns-in-AssignMulti t c =
+    resim (λ v z A. later_by (lent c.args.tree.now) v c.args.r (numbered _ _ kind.AssignMulti c.kind.ensures c.in-AssignMulti.is tt) A)
     c.multi.ensures
 
 pub arm-returns-in_default : goal.arm-returns-in_default
 arm-returns-in_default t c =
-    resim (λ v z A. to_last (lent c.args.tree.now) v c.args.r _ c.kind.ensures c.in_default.in_default-own.rest.0.0.0.0.0.0.0.0.0.0.0.0.0.1
-    c.in_default.in_default-own.rest.0.0.0.0.0.0.0.0.0.0.0.0.1 c.in_default.in_default-own.rest.0.0.0.0.0.0.0.0.0.0.0.1
-    c.in_default.in_default-own.rest.0.0.0.0.0.0.0.0.0.0.1 c.in_default.in_default-own.rest.0.0.0.0.0.0.0.0.0.1 c.in_default.in_default-own.rest.0.0.0.0.0.0.0.0.1
-    c.in_default.in_default-own.rest.0.0.0.0.0.0.0.1 c.in_default.in_default-own.rest.0.0.0.0.0.0.1 c.in_default.in_default-own.rest.0.0.0.0.0.1
-    c.in_default.in_default-own.rest.0.0.0.0.1 c.in_default.in_default-own.rest.0.0.0.1 c.in_default.in_default-own.rest.0.0.1 c.in_default.in_default-own.rest.0.1
-    c.in_default.in_default-own.rest.1 A) c.rest.ensures
+    resim (λ v z A. to_last (lent c.args.tree.now) v c.args.r _ refl (unlike _ _ kind.If c.kind.ensures c.in_default.not-If tt)
+    (unlike _ _ kind.Match c.kind.ensures c.in_default.not-Match tt) (unlike _ _ kind.Loop c.kind.ensures c.in_default.not-Loop tt)
+    (unlike _ _ kind.While c.kind.ensures c.in_default.not-While tt) (unlike _ _ kind.For c.kind.ensures c.in_default.not-For tt)
+    (unlike _ _ kind.Break c.kind.ensures c.in_default.not-Break tt) (unlike _ _ kind.Continue c.kind.ensures c.in_default.not-Continue tt)
+    (unlike _ _ kind.Return c.kind.ensures c.in_default.not-Return tt) (unlike _ _ kind.Import c.kind.ensures c.in_default.not-Import tt)
+    (unlike _ _ kind.GloAssign c.kind.ensures c.in_default.not-GloAssign tt) (unlike _ _ kind.Assign c.kind.ensures c.in_default.not-Assign tt)
+    (unlike _ _ kind.AssignOp c.kind.ensures c.in_default.not-AssignOp tt) (unlike _ _ kind.AssignUnpack c.kind.ensures c.in_default.not-AssignUnpack tt)
+    (unlike _ _ kind.AssignMulti c.kind.ensures c.in_default.not-AssignMulti tt) A) c.rest.ensures
 
 pub assign-expr-requires : goal.assign-expr-requires
 assign-expr-requires t c = (
-  falls_to (size c.args.tree.now.records.now) c.args.r _ 12 7 t c.decreases (lit< tt) (child2 c.args.tree.now.records.now c.next-right.ensures (child1 c.args.tree.now.records.now c.first-left.ensures)),
+  falls_to (size c.args.tree.now.records.now) c.args.r _ 12 7 t c.decreases (lit< tt)
+      (child2 c.args.tree.now.records.now c.next-right.ensures (child1 c.args.tree.now.records.now c.first-left.ensures)),
   tt,
 )
 
@@ -281,7 +246,8 @@ binary-expr-requires t c =
 
 pub binary-expr-requires-in_default : goal.binary-expr-requires-in_default
 binary-expr-requires-in_default t c = (
-  falls_to (size c.args.tree.now.records.now) c.args.r _ 12 7 t c.decreases (lit< tt) (child2 c.args.tree.now.records.now c.next-right.ensures (child1 c.args.tree.now.records.now c.first-left.ensures)),
+  falls_to (size c.args.tree.now.records.now) c.args.r _ 12 7 t c.decreases (lit< tt)
+      (child2 c.args.tree.now.records.now c.next-right.ensures (child1 c.args.tree.now.records.now c.first-left.ensures)),
   tt,
 )
 
@@ -289,7 +255,7 @@ pub binary-returns-in-And : goal.binary-returns-in-And
 binary-returns-in-And t c =
     resim (λ v z A. either_yes (lent c.args.tree.now) v c.args.r _ _ _ A (sym (is_and (word c.args.tree.now.records.now c.args.r 1)
     c.binary_operator-operator.ensures) ∙ ap (λ (o : BinOp). eqb (bin_number o) 5) c.in-And.is))
-    c.and.ensures
+    c.short_circuit.ensures
 
 pub binary-returns-in-Or : goal.binary-returns-in-Or
 binary-returns-in-Or t c =
@@ -297,7 +263,7 @@ binary-returns-in-Or t c =
     c.binary_operator-operator.ensures) ∙ ap (λ (o : BinOp). eqb (bin_number o) 5) c.in-Or.is))
     (resim (λ v z A. either_yes (lent c.args.tree.now) v c.args.r _ _ _ A (sym (is_or (word c.args.tree.now.records.now c.args.r 1)
     c.binary_operator-operator.ensures) ∙ ap (λ (o : BinOp). eqb (bin_number o) 6) c.in-Or.is))
-    c.or.ensures)
+    c.short_circuit-in-Or.ensures)
 
 pub binary-returns-in_default : goal.binary-returns-in_default
 binary-returns-in_default t c =
@@ -345,7 +311,7 @@ block-loop-cx-preserved t c =
     c.keep_error.ensures c.next-child.ensures c.if-child-eq0-2.false
     (record {
       sim = λ z v o₀ A h.
-          said c.args.r Pop 0 refl refl c.push_op.ensures h;
+          said c.args.r Pop 0 refl refl (sent _ c.push_code.ensures.1 c.push_code.ensures.2) h;
     })
 
 pub block-returns : goal.block-returns
@@ -376,7 +342,7 @@ bodies-loop-at-preserved t c =
       sim = λ z v o₀ A h.
           let h1 = placed r i refl q c.push_label.ensures h in
           let h2 = visited z Expr refl c.expr.ensures h1 in
-          jumped r Jump j refl d c.push_op.ensures h2;
+          jumped r Jump j refl d (sent _ c.push_code.ensures.1 c.push_code.ensures.2) h2;
     })
 
 pub bodies-returns : goal.bodies-returns
@@ -392,32 +358,35 @@ body-expr-requires t c =
 
 pub body-expr-requires-2 : goal.body-expr-requires-2
 body-expr-requires-2 t c = (
-  falls_to (size c.args.tree.now.records.now) c.args.r _ 12 4 t c.decreases (lit< tt) (child2 c.args.tree.now.records.now c.next-block.ensures (child1 c.args.tree.now.records.now c.first-params.ensures)),
+  falls_to (size c.args.tree.now.records.now) c.args.r _ 12 4 t c.decreases (lit< tt)
+      (child2 c.args.tree.now.records.now c.next-block.ensures (child1 c.args.tree.now.records.now c.first-params.ensures)),
   tt,
 )
 
-pub body-returns-then-detail-eq-DO : goal.body-returns-then-detail-eq-DO
+pub body-returns-then-eq : goal.body-returns-then-eq
 unfolding does doing exec
-body-returns-then-detail-eq-DO t c =
-    resim (λ v z A. either_yes (lent c.args.tree.now) v c.args.r _ _ _ A (eq-eqb _ 2 (sym c.detail.ensures ∙ c.if-detail-eq-DO.true)))
+body-returns-then-eq t c =
+    resim (λ v z A. either_yes (lent c.args.tree.now) v c.args.r _ _ _ A
+    (sym (is_do_kind (word c.args.tree.now.records.now c.args.r 1) _ _ c.function_kind.ensures c.eq.ensures) ∙ c.if-eq.true))
     (record {
       sim = λ z v o₀ A h.
           let h1 = visited z Expr c.first-params.ensures c.expr.ensures h in
           let h2 = visited z Expr (next_of c.args.tree.now.records.now c.next-block.ensures c.first-params.ensures) c.expr-2.ensures h1 in
-          let h3 = said c.args.r Pop 0 refl refl c.push_op.ensures h2 in
-          let h4 = said c.args.r LoadLocals 0 refl refl c.push_op-then-detail-eq-DO.ensures h3 in
-          said c.args.r Return 0 refl refl c.push_op-then-detail-eq-DO-2.ensures h4;
+          let h3 = said c.args.r Pop 0 refl refl (sent _ c.push_code.ensures.1 c.push_code.ensures.2) h2 in
+          let h4 = said c.args.r LoadLocals 0 refl refl (sent _ c.push_code-then-eq.ensures.1 c.push_code-then-eq.ensures.2) h3 in
+          said c.args.r Return 0 refl refl (sent _ c.push_code-then-eq-2.ensures.1 c.push_code-then-eq-2.ensures.2) h4;
     })
 
 pub body-returns : goal.body-returns
 unfolding does doing exec
 body-returns t c =
-    resim (λ v z A. either_no (lent c.args.tree.now) v c.args.r _ _ _ A (ne_eqb _ 2 (λ e. c.if-detail-eq-DO.false (c.detail.ensures ∙ e))))
+    resim (λ v z A. either_no (lent c.args.tree.now) v c.args.r _ _ _ A
+    (sym (is_do_kind (word c.args.tree.now.records.now c.args.r 1) _ _ c.function_kind.ensures c.eq.ensures) ∙ c.if-eq.false))
     (record {
       sim = λ z v o₀ A h.
           let h1 = visited z Expr c.first-params.ensures c.expr.ensures h in
           let h2 = visited z Expr (next_of c.args.tree.now.records.now c.next-block.ensures c.first-params.ensures) c.expr-2.ensures h1 in
-          said c.args.r Return 0 refl refl c.push_op-2.ensures h2;
+          said c.args.r Return 0 refl refl (sent _ c.push_code-2.ensures.1 c.push_code-2.ensures.2) h2;
     })
 
 pub call-called-requires : goal.call-called-requires
@@ -426,7 +395,8 @@ call-called-requires t c =
 
 pub call-all-requires : goal.call-all-requires
 call-all-requires t c = (
-  falls_to (size c.args.tree.now.records.now) c.args.r _ 13 7 t c.decreases (lit< tt) (child2 c.args.tree.now.records.now c.next-arguments.ensures (child1 c.args.tree.now.records.now c.first-callee.ensures)),
+  falls_to (size c.args.tree.now.records.now) c.args.r _ 13 7 t c.decreases (lit< tt)
+      (child2 c.args.tree.now.records.now c.next-arguments.ensures (child1 c.args.tree.now.records.now c.first-callee.ensures)),
   tt,
 )
 
@@ -438,7 +408,8 @@ call-returns-then-handlers-eq0 t c =
           let h2 = through_at z (c.arguments_len-n.ensures ∙ ap (λ (x : ℕ). arguments (own_tree (forest c.args.tree.now.records.now x))) (next_of c.args.tree.now.records.now
           c.next-arguments.ensures c.first-callee.ensures)) (next_of c.args.tree.now.records.now c.next-arguments.ensures c.first-callee.ensures) c.all.ensures h1 in
           given (call_plain (lent c.args.tree.now) v c.args.r (call_of c.args.tail) (sym (c.nth-handlers.ensures ∙ ap₂
-          (nth c.args.tree.now.records.now) (c.arguments_len-n.ensures ∙ ap (λ (x : ℕ). arguments (own_tree (forest c.args.tree.now.records.now x))) (next_of c.args.tree.now.records.now
+          (nth c.args.tree.now.records.now)
+          (c.arguments_len-n.ensures ∙ ap (λ (x : ℕ). arguments (own_tree (forest c.args.tree.now.records.now x))) (next_of c.args.tree.now.records.now
           c.next-arguments.ensures c.first-callee.ensures)) (next_of c.args.tree.now.records.now c.next-arguments.ensures c.first-callee.ensures)) ∙ c.if-handlers-eq0.true) A)
           (said c.args.r (call_of c.args.tail) _ refl (c.argument_count-argument_count.ensures ∙ ap₂ (λ (x y : ℕ). cap (argument_count c.args.tree.now.records.now x y))
           c.first-callee.ensures (c.arguments_len-n.ensures ∙ ap (λ (x : ℕ). arguments (own_tree (forest c.args.tree.now.records.now
@@ -465,8 +436,8 @@ call-returns t c =
           let h4 = (c.registers-handler_label.ensures.moves c.args.r).moves v o₀ _ h3 in
           let h5 = said c.args.r Call _ refl (c.argument_count-argument_count.ensures ∙ ap₂ (λ (x y : ℕ). cap (argument_count c.args.tree.now.records.now x y))
           c.first-callee.ensures (c.arguments_len-n.ensures ∙ ap (λ (x : ℕ). arguments (own_tree (forest c.args.tree.now.records.now x))) (next_of c.args.tree.now.records.now
-          c.next-arguments.ensures c.first-callee.ensures))) c.push_op.ensures h4 in
-          let h6 = jumped c.args.r Jump _ refl l c.push_op-2.ensures h5 in
+          c.next-arguments.ensures c.first-callee.ensures))) (sent _ c.push_code.ensures.1 c.push_code.ensures.2) h4 in
+          let h6 = jumped c.args.r Jump _ refl l (sent _ c.push_code-2.ensures.1 c.push_code-2.ensures.2) h5 in
           let h7 = (c.bodies.ensures.bodies c.args.r _ _ k l).sim z v o₀ _ h6 in
           given (call_handled (lent c.args.tree.now) v c.args.r (call_of c.args.tail) (c.nth-handlers.ensures ∙ ap₂ (nth
           c.args.tree.now.records.now) (c.arguments_len-n.ensures ∙ ap (λ (x : ℕ). arguments (own_tree (forest c.args.tree.now.records.now x))) (next_of c.args.tree.now.records.now
@@ -505,11 +476,11 @@ called-returns-then-is_unlabelled t c =
       sim = λ z v o₀ A h.
           let h1 = visited z Expr c.first-table.ensures c.expr-2.ensures h in
           let t = label_test (word c.args.tree.now.records.now c.args.callee 1) h1 c.is_unlabelled.ensures in
-          let k = said c.args.callee Copy 1 refl refl c.push_op.ensures h1 in
+          let k = said c.args.callee Copy 1 refl refl (sent _ c.push_code.ensures.1 c.push_code.ensures.2) h1 in
           let p = propped z c.args.callee (word c.args.tree.now.records.now c.args.callee 1 % 8) c.property_of-property.ensures c.prop.ensures k in
           let g = got c.args.callee (word c.args.tree.now.records.now c.args.callee 1 % 8) c.property_of-property.ensures c.push_get.ensures p in
           given (method_bare (lent c.args.tree.now) v c.args.callee (t ∙ c.if-is_unlabelled.true) A) (said c.args.callee
-          Swap 2 refl refl c.push_op-then-is_unlabelled.ensures g);
+          Swap 2 refl refl (sent _ c.push_code-then-is_unlabelled.ensures.1 c.push_code-then-is_unlabelled.ensures.2) g);
     })
 
 pub called-prop-requires-2 : goal.called-prop-requires-2
@@ -527,10 +498,10 @@ called-returns t c =
           let l = label c.get_label-safe_label.ensures h1 in
           let h2 = labelled c.get_label-safe_label.ensures h1 in
           let h3 = (c.push_safe_jump.ensures.moves _ l).moves v o₀ _ h2 in
-          let k = said c.args.callee Copy 1 refl refl c.push_op-2.ensures h3 in
+          let k = said c.args.callee Copy 1 refl refl (sent _ c.push_code-2.ensures.1 c.push_code-2.ensures.2) h3 in
           let p = propped z c.args.callee (word c.args.tree.now.records.now c.args.callee 1 % 8) c.property_of-property.ensures c.prop-2.ensures k in
           let g = got c.args.callee (word c.args.tree.now.records.now c.args.callee 1 % 8) c.property_of-property.ensures c.push_get-2.ensures p in
-          let q = said c.args.callee Swap 2 refl refl c.push_op-3.ensures g in
+          let q = said c.args.callee Swap 2 refl refl (sent _ c.push_code-3.ensures.1 c.push_code-3.ensures.2) g in
           given (method_run (lent c.args.tree.now) v c.args.callee (t ∙ c.if-is_unlabelled.false) A) (placed c.args.callee _
           refl l c.push_label.ensures q);
     })
@@ -545,7 +516,8 @@ cases-expr-requires t c =
 
 pub cases-bodies-requires : goal.cases-bodies-requires
 cases-bodies-requires t c = (
-  falls_to (size c.args.tree.now.records.now) c.args.r _ 13 7 t c.decreases (lit< tt) (child2 c.args.tree.now.records.now c.next-cases.ensures (child1 c.args.tree.now.records.now c.first-value.ensures)),
+  falls_to (size c.args.tree.now.records.now) c.args.r _ 13 7 t c.decreases (lit< tt)
+      (child2 c.args.tree.now.records.now c.next-cases.ensures (child1 c.args.tree.now.records.now c.first-value.ensures)),
   tt,
 )
 
@@ -560,12 +532,12 @@ cases-returns t c =
           let h3 = labelled c.get_labels-block_label.ensures h2 in
           let h4 = (c.patterns.ensures.tests c.args.r _ k).sim z v o₀ _ h3 in
           let h5 = nulled c.args.r c.push_null.ensures h4 in
-          let h6 = jumped c.args.r Jump _ refl l c.push_op.ensures h5 in
+          let h6 = jumped c.args.r Jump _ refl l (sent _ c.push_code.ensures.1 c.push_code.ensures.2) h5 in
           let h7 = (c.bodies.ensures.bodies c.args.r _ _ k l).sim z v o₀ _ h6 in
           let h8 = placed c.args.r _ refl l c.push_label.ensures h7 in
-          let h9 = said c.args.r Swap 2 refl refl c.push_op-2.ensures h8 in
+          let h9 = said c.args.r Swap 2 refl refl (sent _ c.push_code-2.ensures.1 c.push_code-2.ensures.2) h8 in
           given (match_run (lent c.args.tree.now) v c.args.r (next_of c.args.tree.now.records.now c.next-cases.ensures c.first-value.ensures) c.width.ensures (λ
-          e. c.if-value-eq0.false (c.first-value.ensures ∙ e)) A) (said c.args.r Pop 0 refl refl c.push_op-3.ensures h9);
+          e. c.if-value-eq0.false (c.first-value.ensures ∙ e)) A) (said c.args.r Pop 0 refl refl (sent _ c.push_code-3.ensures.1 c.push_code-3.ensures.2) h9);
     }
 
 pub catch-expr-requires : goal.catch-expr-requires
@@ -591,9 +563,10 @@ catch-returns t c =
             let h1 = effect_loaded (lent c.args.tree.now) c.args.handler z q c.capped.ensures c.push_load_const.ensures h in
             let h2 = said c.args.handler CheckEffect _ refl (c.params_len.ensures ∙ ap (λ (y : ℕ). cap (width (below (own_tree (forest c.args.tree.now.records.now y)) 0)))
             (next_of c.args.tree.now.records.now c.next-params.ensures c.first-effect.ensures) ∙ ap (λ (k : Nodes). cap (width k)) (sym (below_nodes
-            c.args.tree.now.records.now (first c.args.tree.now.records.now c.args.handler) 0))) c.push_op.ensures h1 in
+            c.args.tree.now.records.now (first c.args.tree.now.records.now c.args.handler) 0))) (sent _ c.push_code.ensures.1 c.push_code.ensures.2) h1 in
             let h3 = visited z Expr (next_of c.args.tree.now.records.now c.next-params.ensures c.first-effect.ensures) c.expr.ensures h2 in
-            visited z Expr (next_of c.args.tree.now.records.now c.next-body.ensures (next_of c.args.tree.now.records.now c.next-params.ensures c.first-effect.ensures)) c.expr-2.ensures h3;
+            visited z Expr (next_of c.args.tree.now.records.now c.next-body.ensures (next_of c.args.tree.now.records.now c.next-params.ensures c.first-effect.ensures))
+            c.expr-2.ensures h3;
       };
     }
 
@@ -603,21 +576,23 @@ cond-expr-requires t c =
 
 pub cond-expr-requires-2 : goal.cond-expr-requires-2
 cond-expr-requires-2 t c = (
-  falls_to (size c.args.tree.now.records.now) c.args.r _ 12 7 t c.decreases (lit< tt) (child2 c.args.tree.now.records.now c.next-consequent.ensures (child1 c.args.tree.now.records.now c.first-test.ensures)),
+  falls_to (size c.args.tree.now.records.now) c.args.r _ 12 7 t c.decreases (lit< tt)
+      (child2 c.args.tree.now.records.now c.next-consequent.ensures (child1 c.args.tree.now.records.now c.first-test.ensures)),
   tt,
 )
 
-pub cond-expr-requires-then-detail-eq-WITH_ELSE : goal.cond-expr-requires-then-detail-eq-WITH_ELSE
-cond-expr-requires-then-detail-eq-WITH_ELSE t c = (
-  falls_to (size c.args.tree.now.records.now) c.args.r _ 12 7 t c.decreases (lit< tt) (child2 c.args.tree.now.records.now c.next-alternate.ensures (child2 c.args.tree.now.records.now
+pub cond-expr-requires-then-flag : goal.cond-expr-requires-then-flag
+cond-expr-requires-then-flag t c = (
+  falls_to (size c.args.tree.now.records.now) c.args.r _ 12 7 t c.decreases (lit< tt)
+      (child2 c.args.tree.now.records.now c.next-alternate.ensures (child2 c.args.tree.now.records.now
       c.next-consequent.ensures (child1 c.args.tree.now.records.now c.first-test.ensures))),
   tt,
 )
 
-pub cond-returns-then-detail-eq-WITH_ELSE : goal.cond-returns-then-detail-eq-WITH_ELSE
+pub cond-returns-then-flag : goal.cond-returns-then-flag
 unfolding does doing exec
-cond-returns-then-detail-eq-WITH_ELSE t c =
-    resim (λ v z A. either_yes (lent c.args.tree.now) v c.args.r _ _ _ A (eq-eqb _ 1 (sym c.detail.ensures ∙ c.if-detail-eq-WITH_ELSE.true)))
+cond-returns-then-flag t c =
+    resim (λ v z A. either_yes (lent c.args.tree.now) v c.args.r _ _ _ A (sym c.flag.ensures ∙ c.if-flag.true))
     (record {
       sim = λ z v o₀ A h.
           let l = label c.get_label-false_label.ensures h in
@@ -625,19 +600,20 @@ cond-returns-then-detail-eq-WITH_ELSE t c =
           let m = label c.get_label-end_label.ensures h1 in
           let h2 = labelled c.get_label-end_label.ensures h1 in
           let h3 = visited z Expr c.first-test.ensures c.expr.ensures h2 in
-          let h4 = jumped c.args.r PopJumpIfFalse _ refl l c.push_op.ensures h3 in
+          let h4 = jumped c.args.r PopJumpIfFalse _ refl l (sent _ c.push_code.ensures.1 c.push_code.ensures.2) h3 in
           let h5 = visited z Expr (next_of c.args.tree.now.records.now c.next-consequent.ensures c.first-test.ensures) c.expr-2.ensures h4 in
-          let h6 = jumped c.args.r Jump _ refl m c.push_op-2.ensures h5 in
+          let h6 = jumped c.args.r Jump _ refl m (sent _ c.push_code-2.ensures.1 c.push_code-2.ensures.2) h5 in
           let h7 = placed c.args.r _ refl l c.push_label.ensures h6 in
-          let h8 = visited z Expr (next_of c.args.tree.now.records.now c.next-alternate.ensures (next_of c.args.tree.now.records.now c.next-consequent.ensures c.first-test.ensures))
-          c.expr-then-detail-eq-WITH_ELSE.ensures h7 in
-          placed c.args.r _ refl m c.push_label-then-detail-eq-WITH_ELSE.ensures h8;
+          let h8 = visited z Expr
+          (next_of c.args.tree.now.records.now c.next-alternate.ensures (next_of c.args.tree.now.records.now c.next-consequent.ensures c.first-test.ensures))
+          c.expr-then-flag.ensures h7 in
+          placed c.args.r _ refl m c.push_label-then-flag.ensures h8;
     })
 
 pub cond-returns : goal.cond-returns
 unfolding does doing exec
 cond-returns t c =
-    resim (λ v z A. either_no (lent c.args.tree.now) v c.args.r _ _ _ A (ne_eqb _ 1 (λ e. c.if-detail-eq-WITH_ELSE.false (c.detail.ensures ∙ e))))
+    resim (λ v z A. either_no (lent c.args.tree.now) v c.args.r _ _ _ A (sym c.flag.ensures ∙ c.if-flag.false))
     (record {
       sim = λ z v o₀ A h.
           let l = label c.get_label-false_label.ensures h in
@@ -645,9 +621,9 @@ cond-returns t c =
           let m = label c.get_label-end_label.ensures h1 in
           let h2 = labelled c.get_label-end_label.ensures h1 in
           let h3 = visited z Expr c.first-test.ensures c.expr.ensures h2 in
-          let h4 = jumped c.args.r PopJumpIfFalse _ refl l c.push_op.ensures h3 in
+          let h4 = jumped c.args.r PopJumpIfFalse _ refl l (sent _ c.push_code.ensures.1 c.push_code.ensures.2) h3 in
           let h5 = visited z Expr (next_of c.args.tree.now.records.now c.next-consequent.ensures c.first-test.ensures) c.expr-2.ensures h4 in
-          let h6 = jumped c.args.r Jump _ refl m c.push_op-2.ensures h5 in
+          let h6 = jumped c.args.r Jump _ refl m (sent _ c.push_code-2.ensures.1 c.push_code-2.ensures.2) h5 in
           let h7 = placed c.args.r _ refl l c.push_label.ensures h6 in
           let h8 = nulled c.args.r c.push_null.ensures h7 in
           placed c.args.r _ refl m c.push_label-2.ensures h8;
@@ -655,7 +631,8 @@ cond-returns t c =
 
 pub each-expr-requires : goal.each-expr-requires
 each-expr-requires t c = (
-  falls_to (size c.args.tree.now.records.now) c.args.r _ 12 7 t c.decreases (lit< tt) (linked_nth c.args.tree.now.records.now c.args.r c.p-n.result c.first-left.ensures c.nth-right.ensures),
+  falls_to (size c.args.tree.now.records.now) c.args.r _ 12 7 t c.decreases (lit< tt)
+      (linked_nth c.args.tree.now.records.now c.args.r c.p-n.result c.first-left.ensures c.nth-right.ensures),
   tt,
 )
 
@@ -679,13 +656,14 @@ each-returns t c =
           let h4 = given (behind_body _ c.args.r A) (begun c.args.r _ _ _ l h3 c.begin_loop.ensures) in
           let h5 = visited z Expr (c.nth-right.ensures ∙ ap₂ (nth c.args.tree.now.records.now) c.p-n.ensures c.first-left.ensures) c.expr.ensures h4 in
           let h6 = (c.iterate.ensures.moves c.args.r _ _ l k).moves v o₀ _ h5 in
-          let h7 = jumped c.args.r Jump _ refl m c.push_op.ensures h6 in
+          let h7 = jumped c.args.r Jump _ refl m (sent _ c.push_code.ensures.1 c.push_code.ensures.2) h6 in
           let h8 = placed c.args.r _ refl k c.push_label.ensures h7 in
-          let h9 = said c.args.r MarkAddStackSize 3 refl refl c.push_op-2.ensures h8 in
-          let i1 = said c.args.r Pop 0 refl refl c.push_op-3.ensures h9 in
+          let h9 = said c.args.r MarkAddStackSize 3 refl refl (sent _ c.push_code-2.ensures.1 c.push_code-2.ensures.2) h8 in
+          let i1 = said c.args.r Pop 0 refl refl (sent _ c.push_code-3.ensures.1 c.push_code-3.ensures.2) h9 in
           let i2 = (c.targets.ensures c.args.r).moves v o₀ _ i1 in
           let i3 = visited z Expr (next_of c.args.tree.now.records.now c.next-body.ensures (c.nth-right.ensures ∙ ap₂ (nth c.args.tree.now.records.now) c.p-n.ensures
-          c.first-left.ensures) ∙ nth_next c.args.tree.now.records.now (word c.args.tree.now.records.now c.args.r 2) (first c.args.tree.now.records.now c.args.r)) c.expr-2.ensures i2 in
+          c.first-left.ensures) ∙ nth_next c.args.tree.now.records.now (word c.args.tree.now.records.now c.args.r 2) (first c.args.tree.now.records.now c.args.r)) c.expr-2.ensures
+          i2 in
           given (for_run (lent c.args.tree.now) v c.args.r c.p-n.ensures c.first-left.ensures A) ((c.end_for.ensures.moves c.args.r _ _ l m).moves v o₀ _ i3);
     }
 
@@ -715,9 +693,9 @@ pub expr-list-requires : goal.expr-list-requires
 expr-list-requires t c =
     (falls_rank (size c.args.tree.now.records.now) c.args.r 8 12 t c.decreases c.if-r-eq0.false (lit< tt), tt)
 
-pub expr-expr-requires-in-9 : goal.expr-expr-requires-in-9
-expr-expr-requires-in-9 t c = (
-  falls_below (size c.args.tree.now.records.now) c.args.r _ 12 11 t c.decreases c.if-r-eq0.false (lit< tt) (child1 c.args.tree.now.records.now c.first-in-9.ensures),
+pub expr-expr-requires-in-Unary : goal.expr-expr-requires-in-Unary
+expr-expr-requires-in-Unary t c = (
+  falls_below (size c.args.tree.now.records.now) c.args.r _ 12 11 t c.decreases c.if-r-eq0.false (lit< tt) (child1 c.args.tree.now.records.now c.first-in-Unary.ensures),
   tt,
 )
 
@@ -725,9 +703,9 @@ pub expr-binary-requires : goal.expr-binary-requires
 expr-binary-requires t c =
     (falls_rank (size c.args.tree.now.records.now) c.args.r 8 12 t c.decreases c.if-r-eq0.false (lit< tt), tt)
 
-pub expr-expr-requires-in-11 : goal.expr-expr-requires-in-11
-expr-expr-requires-in-11 t c = (
-  falls_below (size c.args.tree.now.records.now) c.args.r _ 12 11 t c.decreases c.if-r-eq0.false (lit< tt) (child1 c.args.tree.now.records.now c.first-in-11.ensures),
+pub expr-expr-requires-in-TypeCheck : goal.expr-expr-requires-in-TypeCheck
+expr-expr-requires-in-TypeCheck t c = (
+  falls_below (size c.args.tree.now.records.now) c.args.r _ 12 11 t c.decreases c.if-r-eq0.false (lit< tt) (child1 c.args.tree.now.records.now c.first-in-TypeCheck.ensures),
   tt,
 )
 
@@ -743,121 +721,122 @@ pub expr-arm-requires : goal.expr-arm-requires
 expr-arm-requires t c =
     (falls_rank (size c.args.tree.now.records.now) c.args.r 11 12 t c.decreases c.if-r-eq0.false (lit< tt), tt)
 
-pub expr-returns-in-1 : goal.expr-returns-in-1
+pub expr-returns-in-Lit : goal.expr-returns-in-Lit
 unfolding does doing exec
-expr-returns-in-1 t c =
-    resim (λ v z A. by (lent c.args.tree.now) v c.args.r c.if-r-eq0.false (sym c.kind.ensures ∙ c.in-1.is) A)
+expr-returns-in-Lit t c =
+    resim (λ v z A. by (lent c.args.tree.now) v c.args.r c.if-r-eq0.false (numbered _ _ kind.Lit c.kind.ensures c.in-Lit.is tt) A)
     (record {
       sim = λ z v o₀ A h.
           lit_loaded c.args.r (word c.args.tree.now.records.now c.args.r 1) (word c.args.tree.now.records.now c.args.r 2) (word c.args.tree.now.records.now
           c.args.r 3) c.push_lit.ensures h;
     })
 
-pub expr-returns-in-2 : goal.expr-returns-in-2
+pub expr-returns-in-Ident : goal.expr-returns-in-Ident
 unfolding does doing exec
-expr-returns-in-2 t c =
-    resim (λ v z A. by (lent c.args.tree.now) v c.args.r c.if-r-eq0.false (sym c.kind.ensures ∙ c.in-2.is) A)
+expr-returns-in-Ident t c =
+    resim (λ v z A. by (lent c.args.tree.now) v c.args.r c.if-r-eq0.false (numbered _ _ kind.Ident c.kind.ensures c.in-Ident.is tt) A)
     (record {
       sim = λ z v o₀ A h.
           used_at (lent c.args.tree.now) c.args.r Get c.args.r c.load.ensures h;
     })
 
-pub expr-returns-in-3 : goal.expr-returns-in-3
+pub expr-returns-in-Paren : goal.expr-returns-in-Paren
 unfolding does doing exec
-expr-returns-in-3 t c =
-    resim (λ v z A. by (lent c.args.tree.now) v c.args.r c.if-r-eq0.false (sym c.kind.ensures ∙ c.in-3.is)
+expr-returns-in-Paren t c =
+    resim (λ v z A. by (lent c.args.tree.now) v c.args.r c.if-r-eq0.false (numbered _ _ kind.Paren c.kind.ensures c.in-Paren.is tt)
     A)
     (record {
       sim = λ z v o₀ A h.
           visited z Expr c.first.ensures c.expr.ensures h;
     })
 
-pub expr-returns-in-4 : goal.expr-returns-in-4
-expr-returns-in-4 t c =
-    resim (λ v z A. by (lent c.args.tree.now) v c.args.r c.if-r-eq0.false (sym c.kind.ensures ∙ c.in-4.is) A)
+pub expr-returns-in-Block : goal.expr-returns-in-Block
+expr-returns-in-Block t c =
+    resim (λ v z A. by (lent c.args.tree.now) v c.args.r c.if-r-eq0.false (numbered _ _ kind.Block c.kind.ensures c.in-Block.is tt) A)
     c.block.ensures
 
-pub expr-returns-in-5 : goal.expr-returns-in-5
-expr-returns-in-5 t c =
-    resim (λ v z A. by (lent c.args.tree.now) v c.args.r c.if-r-eq0.false (sym c.kind.ensures ∙ c.in-5.is) A)
+pub expr-returns-in-Fn : goal.expr-returns-in-Fn
+expr-returns-in-Fn t c =
+    resim (λ v z A. by (lent c.args.tree.now) v c.args.r c.if-r-eq0.false (numbered _ _ kind.Fn c.kind.ensures c.in-Fn.is tt) A)
     c.func.ensures
 
-pub expr-returns-in-6 : goal.expr-returns-in-6
-expr-returns-in-6 t c =
-    resim (λ v z A. by (lent c.args.tree.now) v c.args.r c.if-r-eq0.false (sym c.kind.ensures ∙ c.in-6.is) A)
-    (c.effect.ensures (sym c.kind.ensures ∙ c.in-6.is))
+pub expr-returns-in-Effect : goal.expr-returns-in-Effect
+expr-returns-in-Effect t c =
+    resim (λ v z A. by (lent c.args.tree.now) v c.args.r c.if-r-eq0.false (numbered _ _ kind.Effect c.kind.ensures c.in-Effect.is tt) A)
+    (c.effect.ensures (numbered _ _ kind.Effect c.kind.ensures c.in-Effect.is tt))
 
-pub expr-returns-in-7 : goal.expr-returns-in-7
-expr-returns-in-7 t c =
-    resim (λ v z A. by (lent c.args.tree.now) v c.args.r c.if-r-eq0.false (sym c.kind.ensures ∙ c.in-7.is) A)
+pub expr-returns-in-Table : goal.expr-returns-in-Table
+expr-returns-in-Table t c =
+    resim (λ v z A. by (lent c.args.tree.now) v c.args.r c.if-r-eq0.false (numbered _ _ kind.Table c.kind.ensures c.in-Table.is tt) A)
     c.table.ensures
 
-pub expr-returns-in-8 : goal.expr-returns-in-8
-expr-returns-in-8 t c =
-    resim (λ v z A. by (lent c.args.tree.now) v c.args.r c.if-r-eq0.false (sym c.kind.ensures ∙ c.in-8.is) A)
+pub expr-returns-in-List : goal.expr-returns-in-List
+expr-returns-in-List t c =
+    resim (λ v z A. by (lent c.args.tree.now) v c.args.r c.if-r-eq0.false (numbered _ _ kind.List c.kind.ensures c.in-List.is tt) A)
     c.list.ensures
 
-pub expr-returns-in-9 : goal.expr-returns-in-9
+pub expr-returns-in-Unary : goal.expr-returns-in-Unary
 unfolding does doing exec
-expr-returns-in-9 t c =
-    resim (λ v z A. by (lent c.args.tree.now) v c.args.r c.if-r-eq0.false (sym c.kind.ensures ∙ c.in-9.is)
+expr-returns-in-Unary t c =
+    resim (λ v z A. by (lent c.args.tree.now) v c.args.r c.if-r-eq0.false (numbered _ _ kind.Unary c.kind.ensures c.in-Unary.is tt)
     A)
     (record {
       sim = λ z v o₀ A h.
-          let h1 = visited z Expr c.first-in-9.ensures c.expr-in-9.ensures h in
+          let h1 = visited z Expr c.first-in-Unary.ensures c.expr-in-Unary.ensures h in
           unary c.args.r (word c.args.tree.now.records.now c.args.r 1) c.unary_operator.ensures c.push_unary.ensures h1;
     })
 
-pub expr-returns-in-10 : goal.expr-returns-in-10
-expr-returns-in-10 t c =
-    resim (λ v z A. by (lent c.args.tree.now) v c.args.r c.if-r-eq0.false (sym c.kind.ensures ∙ c.in-10.is)
+pub expr-returns-in-Binary : goal.expr-returns-in-Binary
+expr-returns-in-Binary t c =
+    resim (λ v z A. by (lent c.args.tree.now) v c.args.r c.if-r-eq0.false (numbered _ _ kind.Binary c.kind.ensures c.in-Binary.is tt)
     A)
     c.binary.ensures
 
-pub expr-returns-in-11 : goal.expr-returns-in-11
+pub expr-returns-in-TypeCheck : goal.expr-returns-in-TypeCheck
 unfolding does doing exec
-expr-returns-in-11 t c =
-    resim (λ v z A. by (lent c.args.tree.now) v c.args.r c.if-r-eq0.false (sym c.kind.ensures ∙ c.in-11.is) A)
+expr-returns-in-TypeCheck t c =
+    resim (λ v z A. by (lent c.args.tree.now) v c.args.r c.if-r-eq0.false (numbered _ _ kind.TypeCheck c.kind.ensures c.in-TypeCheck.is tt) A)
     (record {
       sim = λ z v o₀ A h.
-          let h1 = visited z Expr c.first-in-11.ensures c.expr-in-11.ensures h in
+          let h1 = visited z Expr c.first-in-TypeCheck.ensures c.expr-in-TypeCheck.ensures h in
           said c.args.r TypeCheck (word c.args.tree.now.records.now c.args.r 1) refl (cap_word _ (let g = c.detail.type_inv in search rules) ∙ ap cap c.detail.ensures)
-          c.push_op.ensures h1;
+          (sent _ c.push_code.ensures.1 c.push_code.ensures.2) h1;
     })
 
-pub expr-returns-in-12 : goal.expr-returns-in-12
-expr-returns-in-12 t c =
-    resim (λ v z A. by (lent c.args.tree.now) v c.args.r c.if-r-eq0.false (sym c.kind.ensures ∙ c.in-12.is)
+pub expr-returns-in-Member : goal.expr-returns-in-Member
+expr-returns-in-Member t c =
+    resim (λ v z A. by (lent c.args.tree.now) v c.args.r c.if-r-eq0.false (numbered _ _ kind.Member c.kind.ensures c.in-Member.is tt)
     A)
     c.member.ensures
 
-pub expr-returns-in-13 : goal.expr-returns-in-13
-expr-returns-in-13 t c =
-    resim (λ v z A. by (lent c.args.tree.now) v c.args.r c.if-r-eq0.false (sym c.kind.ensures ∙ c.in-13.is)
+pub expr-returns-in-Call : goal.expr-returns-in-Call
+expr-returns-in-Call t c =
+    resim (λ v z A. by (lent c.args.tree.now) v c.args.r c.if-r-eq0.false (numbered _ _ kind.Call c.kind.ensures c.in-Call.is tt)
     A)
     c.call.ensures
 
 pub expr-returns-in_default : goal.expr-returns-in_default
 expr-returns-in_default t c =
-    resim (λ v z A. to_later (lent c.args.tree.now) v c.args.r _ c.if-r-eq0.false c.kind.ensures
-    c.in_default.in_default-own.rest.0.0.0.0.0.0.0.0.0.0.0.0.1 c.in_default.in_default-own.rest.0.0.0.0.0.0.0.0.0.0.0.1
-    c.in_default.in_default-own.rest.0.0.0.0.0.0.0.0.0.0.1 c.in_default.in_default-own.rest.0.0.0.0.0.0.0.0.0.1 c.in_default.in_default-own.rest.0.0.0.0.0.0.0.0.1
-    c.in_default.in_default-own.rest.0.0.0.0.0.0.0.1 c.in_default.in_default-own.rest.0.0.0.0.0.0.1 c.in_default.in_default-own.rest.0.0.0.0.0.1
-    c.in_default.in_default-own.rest.0.0.0.0.1 c.in_default.in_default-own.rest.0.0.0.1 c.in_default.in_default-own.rest.0.0.1
-    c.in_default.in_default-own.rest.0.1 c.in_default.in_default-own.rest.1 A) c.arm.ensures
+    resim (λ v z A. to_later (lent c.args.tree.now) v c.args.r _ c.if-r-eq0.false refl (unlike _ _ kind.Lit c.kind.ensures c.in_default.not-Lit tt)
+    (unlike _ _ kind.Ident c.kind.ensures c.in_default.not-Ident tt) (unlike _ _ kind.Paren c.kind.ensures c.in_default.not-Paren tt)
+    (unlike _ _ kind.Block c.kind.ensures c.in_default.not-Block tt) (unlike _ _ kind.Fn c.kind.ensures c.in_default.not-Fn tt)
+    (unlike _ _ kind.Effect c.kind.ensures c.in_default.not-Effect tt) (unlike _ _ kind.Table c.kind.ensures c.in_default.not-Table tt)
+    (unlike _ _ kind.List c.kind.ensures c.in_default.not-List tt) (unlike _ _ kind.Unary c.kind.ensures c.in_default.not-Unary tt)
+    (unlike _ _ kind.Binary c.kind.ensures c.in_default.not-Binary tt) (unlike _ _ kind.TypeCheck c.kind.ensures c.in_default.not-TypeCheck tt)
+    (unlike _ _ kind.Member c.kind.ensures c.in_default.not-Member tt) (unlike _ _ kind.Call c.kind.ensures c.in_default.not-Call tt) A) c.arm.ensures
 
 pub fetch-returns-then-left-eq0 : goal.fetch-returns-then-left-eq0
 fetch-returns-then-left-eq0 t c =
     resim (λ v z A. absent (lent c.args.tree.now) v Before c.if-left-eq0.true A) stay
 
-pub fetch-returns-then-kind-ne-LEFT : goal.fetch-returns-then-kind-ne-LEFT
-fetch-returns-then-kind-ne-LEFT t c =
-    resim (λ v z A. before_other (lent c.args.tree.now) v c.args.left c.if-left-eq0.false (λ e. c.if-kind-ne-LEFT.true (c.kind.ensures ∙ e)) A) stay
+pub fetch-returns-then-ne : goal.fetch-returns-then-ne
+fetch-returns-then-ne t c =
+    resim (λ v z A. before_other (lent c.args.tree.now) v c.args.left c.if-left-eq0.false (other_kind _ _ kind.Left _ c.kind.ensures c.ne.ensures tt c.if-ne.true) A) stay
 
 pub fetch-returns-then-detail-eq-PLAIN : goal.fetch-returns-then-detail-eq-PLAIN
 unfolding does doing exec
 fetch-returns-then-detail-eq-PLAIN t c =
-    resim (λ v z A. before_plain (lent c.args.tree.now) v c.args.left c.if-left-eq0.false (sym c.kind.ensures ∙ c.if-kind-ne-LEFT.false) (sym
+    resim (λ v z A. before_plain (lent c.args.tree.now) v c.args.left c.if-left-eq0.false (same_kind _ _ kind.Left _ c.kind.ensures c.ne.ensures tt c.if-ne.false) (sym
     c.detail.ensures ∙ c.if-detail-eq-PLAIN.true) A)
     (record {
       sim = λ z v o₀ A h.
@@ -870,8 +849,8 @@ fetch-returns-then-is_meta t c =
     record {
       sim = λ z v o₀ A h.
           let h1 = used z c.args.left 0 Get c.first.ensures c.load.ensures h in
-          let h2 = said c.args.left Copy 1 refl refl c.push_op.ensures h1 in
-          given (before_meta (lent c.args.tree.now) v c.args.left c.if-left-eq0.false (sym c.kind.ensures ∙ c.if-kind-ne-LEFT.false) (λ e.
+          let h2 = said c.args.left Copy 1 refl refl (sent _ c.push_code.ensures.1 c.push_code.ensures.2) h1 in
+          given (before_meta (lent c.args.tree.now) v c.args.left c.if-left-eq0.false (same_kind _ _ kind.Left _ c.kind.ensures c.ne.ensures tt c.if-ne.false) (λ e.
           c.if-detail-eq-PLAIN.false (c.detail.ensures ∙ e)) c.left_property-property.ensures (sym c.is_meta.ensures ∙ c.if-is_meta.true) A) (got
           c.args.left (word c.args.tree.now.records.now c.args.left 1 - 1) c.left_property-property.ensures c.push_get.ensures h2);
     }
@@ -887,9 +866,9 @@ fetch-returns t c =
       sim = λ z v o₀ A h.
           let h1 = used z c.args.left 0 Get c.first.ensures c.load.ensures h in
           let h2 = propped z c.args.left (word c.args.tree.now.records.now c.args.left 1 - 1) c.left_property-property.ensures c.prop.ensures h1 in
-          let h3 = said c.args.left Copy 2 refl refl c.push_op-2.ensures h2 in
-          let h4 = said c.args.left Copy 2 refl refl c.push_op-3.ensures h3 in
-          given (before_member (lent c.args.tree.now) v c.args.left c.if-left-eq0.false (sym c.kind.ensures ∙ c.if-kind-ne-LEFT.false) (λ e.
+          let h3 = said c.args.left Copy 2 refl refl (sent _ c.push_code-2.ensures.1 c.push_code-2.ensures.2) h2 in
+          let h4 = said c.args.left Copy 2 refl refl (sent _ c.push_code-3.ensures.1 c.push_code-3.ensures.2) h3 in
+          given (before_member (lent c.args.tree.now) v c.args.left c.if-left-eq0.false (same_kind _ _ kind.Left _ c.kind.ensures c.ne.ensures tt c.if-ne.false) (λ e.
           c.if-detail-eq-PLAIN.false (c.detail.ensures ∙ e)) c.left_property-property.ensures (sym c.is_meta.ensures ∙ c.if-is_meta.false) A) (got c.args.left
           (word c.args.tree.now.records.now c.args.left 1 - 1) c.left_property-property.ensures c.push_get-2.ensures h4);
     }
@@ -898,10 +877,10 @@ pub func-expr-requires : goal.func-expr-requires
 func-expr-requires t c =
     (falls_to (size c.args.tree.now.records.now) c.args.r _ 12 7 t c.decreases (lit< tt) (child1 c.args.tree.now.records.now c.first.ensures), tt)
 
-pub func-returns-then-detail-ne-NAMED : goal.func-returns-then-detail-ne-NAMED
+pub func-returns-then-not-flag : goal.func-returns-then-not-flag
 unfolding does doing exec
-func-returns-then-detail-ne-NAMED t c =
-    resim (λ v z A. either_no (lent c.args.tree.now) v c.args.r _ _ _ A (ne_eqb _ 1 (λ e. c.if-detail-ne-NAMED.true (c.detail.ensures ∙ e))))
+func-returns-then-not-flag t c =
+    resim (λ v z A. either_no (lent c.args.tree.now) v c.args.r _ _ _ A (sym c.flag.ensures ∙ c.if-not-flag.true))
     (record {
       sim = λ z v o₀ A h.
           visited z Expr c.first.ensures c.expr.ensures h;
@@ -909,14 +888,15 @@ func-returns-then-detail-ne-NAMED t c =
 
 pub func-expr-requires-2 : goal.func-expr-requires-2
 func-expr-requires-2 t c = (
-  falls_to (size c.args.tree.now.records.now) c.args.r _ 12 7 t c.decreases (lit< tt) (child2 c.args.tree.now.records.now c.next-function.ensures (child1 c.args.tree.now.records.now c.first-name.ensures)),
+  falls_to (size c.args.tree.now.records.now) c.args.r _ 12 7 t c.decreases (lit< tt)
+      (child2 c.args.tree.now.records.now c.next-function.ensures (child1 c.args.tree.now.records.now c.first-name.ensures)),
   tt,
 )
 
 pub func-returns : goal.func-returns
 unfolding does doing exec
 func-returns t c =
-    resim (λ v z A. either_yes (lent c.args.tree.now) v c.args.r _ _ _ A (eq-eqb _ 1 (sym c.detail.ensures ∙ c.if-detail-ne-NAMED.false)))
+    resim (λ v z A. either_yes (lent c.args.tree.now) v c.args.r _ _ _ A (sym c.flag.ensures ∙ c.if-not-flag.false))
     (record {
       sim = λ z v o₀ A h.
           let h1 = visited z Expr (next_of c.args.tree.now.records.now c.next-function.ensures c.first-name.ensures) c.expr-2.ensures h in
@@ -926,7 +906,8 @@ func-returns t c =
 
 pub glo-expr-requires : goal.glo-expr-requires
 glo-expr-requires t c = (
-  falls_to (size c.args.tree.now.records.now) c.args.r _ 12 7 t c.decreases (lit< tt) (child2 c.args.tree.now.records.now c.next-right.ensures (child1 c.args.tree.now.records.now c.first-left.ensures)),
+  falls_to (size c.args.tree.now.records.now) c.args.r _ 12 7 t c.decreases (lit< tt)
+      (child2 c.args.tree.now.records.now c.next-right.ensures (child1 c.args.tree.now.records.now c.first-left.ensures)),
   tt,
 )
 
@@ -947,45 +928,49 @@ import-all-requires t c = (
   tt,
 )
 
-pub import-returns-in-2 : goal.import-returns-in-2
+pub import-returns-in-Items : goal.import-returns-in-Items
 unfolding does doing exec
-import-returns-in-2 t c =
+import-returns-in-Items t c =
     record {
       sim = λ z v o₀ A h.
           let h1 = str_loaded c.args.r Import (word c.args.tree.now.records.now c.args.r 3) c.q.ensures c.push_import.ensures h in
-          let q = (sym c.detail.ensures ∙ c.in-2.is) in
-          let h2 = through_at z ((c.width.ensures ∙ ap (λ (x : ℕ). width (own_tree (forest c.args.tree.now.records.now x))) (c.nth-items.ensures ∙ ap₂ (nth c.args.tree.now.records.now)
+          let d = word c.args.tree.now.records.now c.args.r 1 in
+          let q = c.import_kind.ensures in
+          let h2 = through_at z
+          ((c.width.ensures ∙ ap (λ (x : ℕ). width (own_tree (forest c.args.tree.now.records.now x))) (c.nth-items.ensures ∙ ap₂ (nth c.args.tree.now.records.now)
           c.p.ensures c.first.ensures)) ∙ sym (width_past c.args.tree.now.records.now (word c.args.tree.now.records.now c.args.r
           2) (first c.args.tree.now.records.now c.args.r))) (c.nth-items.ensures ∙ ap₂ (nth c.args.tree.now.records.now) c.p.ensures c.first.ensures)
           c.all.ensures h1 in
-          let h3 = said c.args.r Pop 0 refl refl c.push_op.ensures h2 in
-          given (either_no (lent c.args.tree.now) v c.args.r _ _ _ _ (le-ltb (word c.args.tree.now.records.now c.args.r
-          1) 2 (omega (arith, q))) ∙ either_yes (lent c.args.tree.now) v c.args.r _ _ _ _ (eq-eqb _ 2 q) ∙ items_run
-          (lent c.args.tree.now) v c.args.r _) (nulled c.args.r c.push_null.ensures h3);
+          let h3 = said c.args.r Pop 0 refl refl (sent _ c.push_code.ensures.1 c.push_code.ensures.2) h2 in
+          given (either_no (lent c.args.tree.now) v c.args.r _ _ _ _ (one_stored d _ false q (ap stores_one c.in-Items.is))
+          ∙ either_yes (lent c.args.tree.now) v c.args.r _ _ _ _ (items_stored d _ true q (ap has_items c.in-Items.is)) ∙ items_run
+          (lent c.args.tree.now) v c.args.r _) (nulled c.args.r c.push_null-in-Items.ensures h3);
     }
 
-pub import-returns-in-0 : goal.import-returns-in-0
+pub import-returns-in-Simple : goal.import-returns-in-Simple
 unfolding does doing exec
-import-returns-in-0 t c =
+import-returns-in-Simple t c =
     record {
       sim = λ z v o₀ A h.
           let h1 = str_loaded c.args.r Import (word c.args.tree.now.records.now c.args.r 3) c.q.ensures c.push_import.ensures h in
           let h2 = c.simple.ensures.sim z v o₀ _ h1 in
-          given (either_yes (lent c.args.tree.now) v c.args.r _ _ _ _ (lt-ltb _ 2 (subst (λ (d : ℕ). d < 2) c.detail.ensures
-          c.in-0.if-this-lt2-own.true)) ∙ simple_part (lent c.args.tree.now) v c.args.r (word c.args.tree.now.records.now
-          c.args.r 2) _) (nulled c.args.r c.push_null-in-0.ensures h2);
+          given (either_yes (lent c.args.tree.now) v c.args.r _ _ _ _
+          (one_stored (word c.args.tree.now.records.now c.args.r 1) _ true c.import_kind.ensures (⊎_elim (λ e. ap stores_one e) (λ e. ap stores_one e) c.in-Simple.is))
+          ∙ simple_part (lent c.args.tree.now) v c.args.r (word c.args.tree.now.records.now
+          c.args.r 2) _) (nulled c.args.r c.push_null.ensures h2);
     }
 
-pub import-returns-in_default : goal.import-returns-in_default
+pub import-returns-in-Glob : goal.import-returns-in-Glob
 unfolding does doing exec
-import-returns-in_default t c =
+import-returns-in-Glob t c =
     record {
       sim = λ z v o₀ A h.
+          let d = word c.args.tree.now.records.now c.args.r 1 in
+          let q = c.import_kind.ensures in
           let h1 = str_loaded c.args.r Import (word c.args.tree.now.records.now c.args.r 3) c.q.ensures c.push_import.ensures h in
-          let h2 = said c.args.r ImportGlob 0 refl refl c.push_op-in_default.ensures h1 in
-          given (either_no (lent c.args.tree.now) v c.args.r _ _ _ _ (le-ltb (word c.args.tree.now.records.now c.args.r
-          1) 2 (subst (λ (d : ℕ). 2 ≤ d) c.detail.ensures c.in_default.if-this-lt2-own.false)) ∙ either_no (lent c.args.tree.now) v c.args.r _ _ _ _
-          (ne_eqb _ 2 (λ e. c.in_default.in_default-own.rest.1 (c.detail.ensures ∙ e)))) (nulled c.args.r c.push_null-in_default.ensures h2);
+          let h2 = said c.args.r ImportGlob 0 refl refl (sent _ c.push_code-in-Glob.ensures.1 c.push_code-in-Glob.ensures.2) h1 in
+          given (either_no (lent c.args.tree.now) v c.args.r _ _ _ _ (one_stored d _ false q (ap stores_one c.in-Glob.is)) ∙ either_no (lent c.args.tree.now) v c.args.r _ _ _ _
+          (items_stored d _ false q (ap has_items c.in-Glob.is))) (nulled c.args.r c.push_null-in-Glob.ensures h2);
     }
 
 pub inner-returns-then-not-cx : goal.inner-returns-then-not-cx
@@ -1005,14 +990,16 @@ pub inner-returns-then-not-is_numbered : goal.inner-returns-then-not-is_numbered
 inner-returns-then-not-is_numbered t c =
     resim (λ v z A. stream_inside (lent c.args.tree.now) v c.args.r A)
     (inside_skipped (lent c.args.tree.now) c.args.r (words c.args.tree.now.records.now c.args.r) (λ v. does (lent c.args.tree.now) v c.args.r
-    (stream_steps (words c.args.tree.now.records.now c.args.r))) (not-false _ (ap not c.if-not-cx.false)) (sym c.goes_on.ensures ∙ not-false _ (ap not c.if-not-goes_on.false)) c.is_numbered.ensures (not-true _ (ap not
+    (stream_steps (words c.args.tree.now.records.now c.args.r))) (not-false _ (ap not c.if-not-cx.false)) (sym c.goes_on.ensures ∙ not-false _ (ap not c.if-not-goes_on.false))
+    c.is_numbered.ensures (not-true _ (ap not
     c.if-not-is_numbered.true)) c.refuse.ensures)
 
 pub inner-returns : goal.inner-returns
 inner-returns t c =
     resim (λ v z A. stream_inside (lent c.args.tree.now) v c.args.r A)
     (inside_goes (lent c.args.tree.now) c.args.r (words c.args.tree.now.records.now c.args.r) (λ v. does (lent c.args.tree.now) v c.args.r
-    (stream_steps (words c.args.tree.now.records.now c.args.r))) (not-false _ (ap not c.if-not-cx.false)) (sym c.goes_on.ensures ∙ not-false _ (ap not c.if-not-goes_on.false)) c.is_numbered.ensures (not-false _ (ap not
+    (stream_steps (words c.args.tree.now.records.now c.args.r))) (not-false _ (ap not c.if-not-cx.false)) (sym c.goes_on.ensures ∙ not-false _ (ap not c.if-not-goes_on.false))
+    c.is_numbered.ensures (not-false _ (ap not
     c.if-not-is_numbered.false))
     c.begin_function-outer.ensures.outer c.begin_function-outer.ensures.context c.body.ensures c.keep_error.ensures c.end_function.ensures)
 
@@ -1029,7 +1016,7 @@ list-returns t c =
           let h1 = through_at z w c.first-items.ensures c.all.ensures h in
           given (visits_part (lent c.args.tree.now) v c.args.r Expr 0 (width (own_tree (children c.args.tree.now.records.now
           c.args.r))) (push_op BuildList (width (own_tree (children c.args.tree.now.records.now c.args.r))) ∷ []) [] A) (said c.args.r
-          BuildList _ refl (c.capped.ensures ∙ ap cap w) c.push_op.ensures h1);
+          BuildList _ refl (c.capped.ensures ∙ ap cap w) (sent _ c.push_code.ensures.1 c.push_code.ensures.2) h1);
     }
 
 pub member-expr-requires : goal.member-expr-requires
@@ -1081,7 +1068,7 @@ multi-all-requires t c = (
 pub multi-loop-init : goal.multi-loop-init
 multi-loop-init t c =
     let e = c.if-n-width.false ∙ (c.width.ensures ∙ ap (λ (x : ℕ). width (own_tree (forest c.args.tree.now.records.now x))) c.first-left.ensures) in
-    downing_start (lent c.args.tree.now) c.args.r _ _ (omega arith) (omega (arith, e)) c.first-left.ensures c.less.ensures c.nth-at.ensures
+    downing_start (lent c.args.tree.now) c.args.r _ _ (omega arith) (omega (arith, e)) c.first-left.ensures c.saturating_sub.ensures c.nth-at.ensures
 
 pub multi-returns-then-at-r : goal.multi-returns-then-at-r
 multi-returns-then-at-r t c =
@@ -1116,32 +1103,10 @@ multi-returns t c =
           A) (nulled c.args.r c.push_null.ensures h2);
     }
 
-pub or-expr-requires : goal.or-expr-requires
-or-expr-requires t c =
-    (falls_to (size c.args.tree.now.records.now) c.args.r _ 12 5 t c.decreases (lit< tt) (child1 c.args.tree.now.records.now c.first-left.ensures), tt)
-
-pub or-expr-requires-2 : goal.or-expr-requires-2
-or-expr-requires-2 t c = (
-  falls_to (size c.args.tree.now.records.now) c.args.r _ 12 5 t c.decreases (lit< tt) (child2 c.args.tree.now.records.now c.next-right.ensures (child1 c.args.tree.now.records.now c.first-left.ensures)),
-  tt,
-)
-
-pub or-returns : goal.or-returns
-unfolding does doing exec
-or-returns t c =
-    record {
-      sim = λ z v o₀ A h.
-          let l = label c.get_label-label.ensures h in
-          let h1 = labelled c.get_label-label.ensures h in
-          let h2 = visited z Expr c.first-left.ensures c.expr.ensures h1 in
-          let h3 = jumped c.args.r JumpIfTrueOrPop _ refl l c.push_op.ensures h2 in
-          let h4 = visited z Expr (next_of c.args.tree.now.records.now c.next-right.ensures c.first-left.ensures) c.expr-2.ensures h3 in
-          placed c.args.r _ refl l c.push_label.ensures h4;
-    }
-
 pub prop-expr-requires : goal.prop-expr-requires
 prop-expr-requires t c = (
-  falls_to (size c.args.tree.now.records.now) c.args.r _ 12 5 t c.decreases (lit< tt) (child2 c.args.tree.now.records.now c.next-held.ensures (child1 c.args.tree.now.records.now c.first-before.ensures)),
+  falls_to (size c.args.tree.now.records.now) c.args.r _ 12 5 t c.decreases (lit< tt)
+      (child2 c.args.tree.now.records.now c.next-held.ensures (child1 c.args.tree.now.records.now c.first-before.ensures)),
   tt,
 )
 
@@ -1190,8 +1155,8 @@ repeat-returns t c =
           let h3 = given (behind _ c.args.r A) (begun c.args.r _ _ _ l h2 c.begin_loop.ensures) in
           let h4 = placed c.args.r _ refl l c.push_label.ensures h3 in
           let h5 = visited z Expr c.first-body.ensures c.expr.ensures h4 in
-          let i1 = said c.args.r Pop 0 refl refl c.push_op.ensures h5 in
-          let i2 = backed c.args.r _ refl l c.push_op-2.ensures i1 in
+          let i1 = said c.args.r Pop 0 refl refl (sent _ c.push_code.ensures.1 c.push_code.ensures.2) h5 in
+          let i2 = backed c.args.r _ refl l (sent _ c.push_code-2.ensures.1 c.push_code-2.ensures.2) i1 in
           let i3 = placed c.args.r _ refl m c.push_label-2.ensures i2 in
           let i4 = nulled c.args.r c.push_null.ensures i3 in
           finished c.end_loop.ensures i4;
@@ -1204,24 +1169,26 @@ rest-expr-requires t c = (
   tt,
 )
 
-pub rest-returns-then-detail-eq-DO : goal.rest-returns-then-detail-eq-DO
+pub rest-returns-then-eq : goal.rest-returns-then-eq
 unfolding does doing exec own_stream
-rest-returns-then-detail-eq-DO t c =
-    resim (λ v z A. last_by (lent c.args.tree.now) v c.args.r (sym c.kind.ensures ∙ c.in-30.is) A)
-    (resim (λ v z A. either_yes (lent c.args.tree.now) v c.args.r _ _ _ A (eq-eqb _ 2 (sym c.detail.ensures ∙ c.if-detail-eq-DO.true)))
+rest-returns-then-eq t c =
+    resim (λ v z A. last_by (lent c.args.tree.now) v c.args.r (numbered _ _ kind.Function c.kind.ensures c.in-Function.is tt) A)
+    (resim (λ v z A. either_yes (lent c.args.tree.now) v c.args.r _ _ _ A
+    (sym (is_do_kind (word c.args.tree.now.records.now c.args.r 1) _ _ c.function_kind.ensures c.eq.ensures) ∙ c.if-eq.true))
     (record {
       sim = λ z v o₀ A h.
           let h1 = c.inner.ensures.sim z v o₀ A h in
           let h2 = function_loaded c.args.r (word c.args.tree.now.records.now c.args.r 2) c.function_id-function_id.ensures c.push_load_const.ensures h1
           in
-          said c.args.r Call 0 refl refl c.push_op.ensures h2;
+          said c.args.r Call 0 refl refl (sent _ c.push_code.ensures.1 c.push_code.ensures.2) h2;
     }))
 
-pub rest-returns-else-detail-eq-DO : goal.rest-returns-else-detail-eq-DO
+pub rest-returns-else-eq : goal.rest-returns-else-eq
 unfolding does doing exec own_stream
-rest-returns-else-detail-eq-DO t c =
-    resim (λ v z A. last_by (lent c.args.tree.now) v c.args.r (sym c.kind.ensures ∙ c.in-30.is) A)
-    (resim (λ v z A. either_no (lent c.args.tree.now) v c.args.r _ _ _ A (ne_eqb _ 2 (λ e. c.if-detail-eq-DO.false (c.detail.ensures ∙ e))))
+rest-returns-else-eq t c =
+    resim (λ v z A. last_by (lent c.args.tree.now) v c.args.r (numbered _ _ kind.Function c.kind.ensures c.in-Function.is tt) A)
+    (resim (λ v z A. either_no (lent c.args.tree.now) v c.args.r _ _ _ A
+    (sym (is_do_kind (word c.args.tree.now.records.now c.args.r 1) _ _ c.function_kind.ensures c.eq.ensures) ∙ c.if-eq.false))
     (record {
       sim = λ z v o₀ A h.
           let h1 = c.inner.ensures.sim z v o₀ A h in
@@ -1230,40 +1197,42 @@ rest-returns-else-detail-eq-DO t c =
           h2;
     }))
 
-pub rest-returns-in-31 : goal.rest-returns-in-31
-rest-returns-in-31 t c =
-    resim (λ v z A. last_by (lent c.args.tree.now) v c.args.r (sym c.kind.ensures ∙ c.in-31.is) A)
+pub rest-returns-in-Params : goal.rest-returns-in-Params
+rest-returns-in-Params t c =
+    resim (λ v z A. last_by (lent c.args.tree.now) v c.args.r (numbered _ _ kind.Params c.kind.ensures c.in-Params.is tt) A)
     c.params.ensures
 
-pub rest-returns-in-32 : goal.rest-returns-in-32
-rest-returns-in-32 t c =
-    resim (λ v z A. last_by (lent c.args.tree.now) v c.args.r (sym c.kind.ensures ∙ c.in-32.is) A)
-    (c.catch.ensures.catches (sym c.kind.ensures ∙ c.in-32.is))
+pub rest-returns-in-Handler : goal.rest-returns-in-Handler
+rest-returns-in-Handler t c =
+    resim (λ v z A. last_by (lent c.args.tree.now) v c.args.r (numbered _ _ kind.Handler c.kind.ensures c.in-Handler.is tt) A)
+    (c.catch.ensures.catches (numbered _ _ kind.Handler c.kind.ensures c.in-Handler.is tt))
 
-pub rest-returns-in-33 : goal.rest-returns-in-33
+pub rest-returns-in-Case : goal.rest-returns-in-Case
 unfolding does doing exec
-rest-returns-in-33 t c =
-    resim (λ v z A. last_by (lent c.args.tree.now) v c.args.r (sym c.kind.ensures ∙ c.in-33.is) A)
+rest-returns-in-Case t c =
+    resim (λ v z A. last_by (lent c.args.tree.now) v c.args.r (numbered _ _ kind.Case c.kind.ensures c.in-Case.is tt) A)
     (record {
       sim = λ z v o₀ A h.
           visited z Expr (c.nth-body.ensures ∙ ap₂ (nth c.args.tree.now.records.now) c.p.ensures c.first.ensures) c.expr.ensures h;
     })
 
-pub rest-returns-in-39 : goal.rest-returns-in-39
-rest-returns-in-39 t c =
-    resim (λ v z A. last_by (lent c.args.tree.now) v c.args.r (sym c.kind.ensures ∙ c.in-39.is) A)
+pub rest-returns-in-Item : goal.rest-returns-in-Item
+rest-returns-in-Item t c =
+    resim (λ v z A. last_by (lent c.args.tree.now) v c.args.r (numbered _ _ kind.Item c.kind.ensures c.in-Item.is tt) A)
     c.import_item.ensures
 
 pub rest-returns-in_default : goal.rest-returns-in_default
 rest-returns-in_default t c =
-    resim (λ v z A. to_none (lent c.args.tree.now) v c.args.r _ c.kind.ensures c.in_default.in_default-own.rest.0.0.0.0.1
-    c.in_default.in_default-own.rest.0.0.0.1 c.in_default.in_default-own.rest.0.0.1 c.in_default.in_default-own.rest.0.1 c.in_default.in_default-own.rest.1 A) stay
+    resim (λ v z A. to_none (lent c.args.tree.now) v c.args.r _ refl (unlike _ _ kind.Function c.kind.ensures c.in_default.not-Function tt)
+    (unlike _ _ kind.Params c.kind.ensures c.in_default.not-Params tt) (unlike _ _ kind.Handler c.kind.ensures c.in_default.not-Handler tt)
+    (unlike _ _ kind.Case c.kind.ensures c.in_default.not-Case tt) (unlike _ _ kind.Item c.kind.ensures c.in_default.not-Item tt) A) stay
 
 pub ret-returns-then-is_in_do : goal.ret-returns-then-is_in_do
 ret-returns-then-is_in_do t c =
     record {
       sim = λ z v o₀ A h.
-          given (ret_barred (lent c.args.tree.now) v c.args.r (in_do (words c.args.tree.now.records.now c.args.r) c.is_in_do.ensures h ∙ c.if-is_in_do.true) A) (bar_yes (words c.args.tree.now.records.now c.args.r) c.is_in_do.ensures h c.if-is_in_do.true c.cut.ensures);
+          given (ret_barred (lent c.args.tree.now) v c.args.r (in_do (words c.args.tree.now.records.now c.args.r) c.is_in_do.ensures h ∙ c.if-is_in_do.true) A)
+          (bar_yes (words c.args.tree.now.records.now c.args.r) c.is_in_do.ensures h c.if-is_in_do.true c.cut.ensures);
     }
 
 pub ret-call-requires : goal.ret-call-requires
@@ -1296,9 +1265,33 @@ ret-returns t c =
           let h1 = bar_no (words c.args.tree.now.records.now c.args.r) c.is_in_do.ensures h c.if-is_in_do.false in
           let h2 = (c.push_return_label.ensures _ c.args.r).moves v o₀ _ h1 in
           let h3 = visited z Expr c.first-argument.ensures c.expr.ensures h2 in
-          let h4 = said c.args.r Return 0 refl refl c.push_op.ensures h3 in
+          let h4 = said c.args.r Return 0 refl refl (sent _ c.push_code.ensures.1 c.push_code.ensures.2) h3 in
           given (ret_plain (lent c.args.tree.now) v c.args.r (ap (λ (x : ℕ). is_tail (own_tree (forest c.args.tree.now.records.now x))) (sym
           c.first-argument.ensures) ∙ sym c.is_tail.ensures ∙ c.if-is_tail.false) A) (nulled c.args.r c.push_null-2.ensures h4);
+    }
+
+pub short_circuit-expr-requires : goal.short_circuit-expr-requires
+short_circuit-expr-requires t c =
+    (falls_to (size c.args.tree.now.records.now) c.args.r _ 12 5 t c.decreases (lit< tt) (child1 c.args.tree.now.records.now c.first-left.ensures), tt)
+
+pub short_circuit-expr-requires-2 : goal.short_circuit-expr-requires-2
+short_circuit-expr-requires-2 t c = (
+  falls_to (size c.args.tree.now.records.now) c.args.r _ 12 5 t c.decreases (lit< tt)
+      (child2 c.args.tree.now.records.now c.next-right.ensures (child1 c.args.tree.now.records.now c.first-left.ensures)),
+  tt,
+)
+
+pub short_circuit-returns : goal.short_circuit-returns
+unfolding does doing exec
+short_circuit-returns t c =
+    record {
+      sim = λ z v o₀ A h.
+          let l = label c.get_label-label.ensures h in
+          let h1 = labelled c.get_label-label.ensures h in
+          let h2 = visited z Expr c.first-left.ensures c.expr.ensures h1 in
+          let h3 = jumped c.args.r (short_jump c.args.operator) _ refl l c.push_short_jump.ensures h2 in
+          let h4 = visited z Expr (next_of c.args.tree.now.records.now c.next-right.ensures c.first-left.ensures) c.expr-2.ensures h3 in
+          placed c.args.r _ refl l c.push_label.ensures h4;
     }
 
 pub short-fetch-requires : goal.short-fetch-requires
@@ -1307,7 +1300,8 @@ short-fetch-requires t c =
 
 pub short-expr-requires : goal.short-expr-requires
 short-expr-requires t c = (
-  falls_to (size c.args.tree.now.records.now) c.args.r _ 12 5 t c.decreases (lit< tt) (child2 c.args.tree.now.records.now c.next-right.ensures (child1 c.args.tree.now.records.now c.first-left.ensures)),
+  falls_to (size c.args.tree.now.records.now) c.args.r _ 12 5 t c.decreases (lit< tt)
+      (child2 c.args.tree.now.records.now c.next-right.ensures (child1 c.args.tree.now.records.now c.first-left.ensures)),
   tt,
 )
 
@@ -1339,21 +1333,21 @@ table-returns t c =
           let h1 = through_at z w c.first-properties.ensures c.all.ensures h in
           given (visits_part (lent c.args.tree.now) v c.args.r Expr 0 (width (own_tree (children c.args.tree.now.records.now
           c.args.r))) (push_op BuildTable (width (own_tree (children c.args.tree.now.records.now c.args.r)) / 2) ∷ []) [] A) (said c.args.r
-          BuildTable _ refl (c.capped.ensures ∙ ap (λ (n : ℕ). cap (n / 2)) w) c.push_op.ensures h1);
+          BuildTable _ refl (c.capped.ensures ∙ ap (λ (n : ℕ). cap (n / 2)) w) (sent _ c.push_code.ensures.1 c.push_code.ensures.2) h1);
     }
 
 pub target-returns-then-left-eq0 : goal.target-returns-then-left-eq0
 target-returns-then-left-eq0 t c =
     resim (λ v z A. absent (lent c.args.tree.now) v Target c.if-left-eq0.true A) stay
 
-pub target-returns-then-kind-ne-LEFT : goal.target-returns-then-kind-ne-LEFT
-target-returns-then-kind-ne-LEFT t c =
-    resim (λ v z A. target_other (lent c.args.tree.now) v c.args.left c.if-left-eq0.false (λ e. c.if-kind-ne-LEFT.true (c.kind.ensures ∙ e)) A) stay
+pub target-returns-then-ne : goal.target-returns-then-ne
+target-returns-then-ne t c =
+    resim (λ v z A. target_other (lent c.args.tree.now) v c.args.left c.if-left-eq0.false (other_kind _ _ kind.Left _ c.kind.ensures c.ne.ensures tt c.if-ne.true) A) stay
 
 pub target-returns-then-detail-eq-PLAIN : goal.target-returns-then-detail-eq-PLAIN
 unfolding does doing exec
 target-returns-then-detail-eq-PLAIN t c =
-    resim (λ v z A. target_plain (lent c.args.tree.now) v c.args.left c.if-left-eq0.false (sym c.kind.ensures ∙ c.if-kind-ne-LEFT.false) (sym
+    resim (λ v z A. target_plain (lent c.args.tree.now) v c.args.left c.if-left-eq0.false (same_kind _ _ kind.Left _ c.kind.ensures c.ne.ensures tt c.if-ne.false) (sym
     c.detail.ensures ∙ c.if-detail-eq-PLAIN.true) A)
     (record {
       sim = λ z v o₀ A h.
@@ -1372,13 +1366,14 @@ target-returns t c =
           let h1 = used z c.args.left 0 Get c.first-ident.ensures c.load.ensures h in
           let h2 = propped z c.args.left (word c.args.tree.now.records.now c.args.left 1 - 1) c.left_property-property.ensures c.prop.ensures h1 in
           let h3 = was_set c.args.left (word c.args.tree.now.records.now c.args.left 1 - 1) c.left_property-property.ensures c.push_set.ensures h2 in
-          given (target_member (lent c.args.tree.now) v c.args.left c.if-left-eq0.false (sym c.kind.ensures ∙ c.if-kind-ne-LEFT.false) (λ e.
+          given (target_member (lent c.args.tree.now) v c.args.left c.if-left-eq0.false (same_kind _ _ kind.Left _ c.kind.ensures c.ne.ensures tt c.if-ne.false) (λ e.
           c.if-detail-eq-PLAIN.false (c.detail.ensures ∙ e)) A) (used z c.args.left 0 Set c.first-ident.ensures c.store-2.ensures h3);
     }
 
 pub unpack-expr-requires : goal.unpack-expr-requires
 unpack-expr-requires t c = (
-  falls_to (size c.args.tree.now.records.now) c.args.r _ 12 7 t c.decreases (lit< tt) (linked_nth c.args.tree.now.records.now c.args.r c.p-n.result c.first-left.ensures c.nth-right.ensures),
+  falls_to (size c.args.tree.now.records.now) c.args.r _ 12 7 t c.decreases (lit< tt)
+      (linked_nth c.args.tree.now.records.now c.args.r c.p-n.result c.first-left.ensures c.nth-right.ensures),
   tt,
 )
 
@@ -1396,7 +1391,7 @@ unpack-loop-i-preserved t c =
     (record {
       sim = λ z v o₀ A h.
           let h1 = int_loaded c.args.r _ refl c.push_load_const.ensures h in
-          let h2 = said c.args.r GetItem 0 refl refl c.push_op.ensures h1 in
+          let h2 = said c.args.r GetItem 0 refl refl (sent _ c.push_code.ensures.1 c.push_code.ensures.2) h1 in
           visited z Target refl c.target.ensures h2;
     })
 
@@ -1424,7 +1419,8 @@ update-fetch-requires t c =
 
 pub update-expr-requires : goal.update-expr-requires
 update-expr-requires t c = (
-  falls_to (size c.args.tree.now.records.now) c.args.r _ 12 7 t c.decreases (lit< tt) (child2 c.args.tree.now.records.now c.next-right.ensures (child1 c.args.tree.now.records.now c.first-left.ensures)),
+  falls_to (size c.args.tree.now.records.now) c.args.r _ 12 7 t c.decreases (lit< tt)
+      (child2 c.args.tree.now.records.now c.next-right.ensures (child1 c.args.tree.now.records.now c.first-left.ensures)),
   tt,
 )
 
@@ -1448,7 +1444,8 @@ whilst-expr-requires t c =
 
 pub whilst-expr-requires-2 : goal.whilst-expr-requires-2
 whilst-expr-requires-2 t c = (
-  falls_to (size c.args.tree.now.records.now) c.args.r _ 12 7 t c.decreases (lit< tt) (child2 c.args.tree.now.records.now c.next-body.ensures (child1 c.args.tree.now.records.now c.first-test.ensures)),
+  falls_to (size c.args.tree.now.records.now) c.args.r _ 12 7 t c.decreases (lit< tt)
+      (child2 c.args.tree.now.records.now c.next-body.ensures (child1 c.args.tree.now.records.now c.first-test.ensures)),
   tt,
 )
 
@@ -1464,10 +1461,10 @@ whilst-returns t c =
           let h3 = given (behind _ c.args.r A) (begun c.args.r _ _ _ l h2 c.begin_loop.ensures) in
           let h4 = placed c.args.r _ refl l c.push_label.ensures h3 in
           let h5 = visited z Expr c.first-test.ensures c.expr.ensures h4 in
-          let h6 = jumped c.args.r PopJumpIfFalse _ refl m c.push_op.ensures h5 in
+          let h6 = jumped c.args.r PopJumpIfFalse _ refl m (sent _ c.push_code.ensures.1 c.push_code.ensures.2) h5 in
           let h7 = visited z Expr (next_of c.args.tree.now.records.now c.next-body.ensures c.first-test.ensures) c.expr-2.ensures h6 in
-          let i1 = said c.args.r Pop 0 refl refl c.push_op-2.ensures h7 in
-          let i2 = backed c.args.r _ refl l c.push_op-3.ensures i1 in
+          let i1 = said c.args.r Pop 0 refl refl (sent _ c.push_code-2.ensures.1 c.push_code-2.ensures.2) h7 in
+          let i2 = backed c.args.r _ refl l (sent _ c.push_code-3.ensures.1 c.push_code-3.ensures.2) i1 in
           let i3 = placed c.args.r _ refl m c.push_label-2.ensures i2 in
           let i4 = nulled c.args.r c.push_null.ensures i3 in
           finished c.end_loop.ensures i4;

@@ -8,9 +8,6 @@ use Rattle.visit.proofs.+visitors.Given as goal
 abbrev pub decreases-all : goal.decreases-all
 decreases-all l = level_or (size l.tree.now.records.now) l.item 13
 
-abbrev pub decreases-and : goal.decreases-and
-decreases-and l = level (size l.tree.now.records.now) l.r 6
-
 abbrev pub decreases-arm : goal.decreases-arm
 decreases-arm l = level (size l.tree.now.records.now) l.r 11
 
@@ -74,9 +71,6 @@ decreases-member l = level (size l.tree.now.records.now) l.r 8
 abbrev pub decreases-multi : goal.decreases-multi
 decreases-multi l = level (size l.tree.now.records.now) l.r 9
 
-abbrev pub decreases-or : goal.decreases-or
-decreases-or l = level (size l.tree.now.records.now) l.r 6
-
 abbrev pub decreases-prop : goal.decreases-prop
 decreases-prop l = level (size l.tree.now.records.now) l.r 6
 
@@ -88,6 +82,9 @@ decreases-rest l = level (size l.tree.now.records.now) l.r 10
 
 abbrev pub decreases-ret : goal.decreases-ret
 decreases-ret l = level (size l.tree.now.records.now) l.r 8
+
+abbrev pub decreases-short_circuit : goal.decreases-short_circuit
+decreases-short_circuit l = level (size l.tree.now.records.now) l.r 6
 
 abbrev pub decreases-short : goal.decreases-short
 decreases-short l = level (size l.tree.now.records.now) l.r 6

@@ -15,5 +15,5 @@ returns-in-Err c = same _ _ _ (list_input c.args.text.now _ _ _ c.front.ensures 
 pub returns : goal.returns
 returns c =
     let r = c.read.ensures in
-    same _ _ _ (list_tables c.args.text.now _ _ _ _ _ _ _ _ _ _ c.front.ensures r.answer r.tables c.in-Ok.is (omega (arith, c.if-text-ge-TOO_LONG.false)))
+    same _ _ _ (list_tables c.args.text.now _ _ _ _ c.front.ensures r.answer r.tables c.in-Ok.is (omega (arith, c.if-text-ge-TOO_LONG.false)))
     c.printed.ensures

@@ -10,8 +10,8 @@ returns c =
     let a = c.args in
     let f = a.function in
     let s = a.symbols.now in
-    same _ _ _ (names_is f s a.names.now a.l.locals a.l.globals a.l.upvalues _ _ c.skip-left.ensures c.skip-last.ensures)
+    same _ _ _ (names_is f s a.names.now a.l.locals a.l.globals a.l.upvalues _ _ c.rest-left.ensures c.rest-last.ensures)
     (on _ _ _ _ (on _ _ _ _
     (c.rows.ensures (plain_at f (bytes "local") s a.names.now) (λ i u v h. search rules))
-    (c.rows-2.ensures (plain_at f (bytes "global") s c.skip-left.result.now) (λ i u v h. search rules)))
-    (c.rows-3.ensures (upvalue_at f c.skip-last.result.now) (λ i u v h. search rules)))
+    (c.rows-2.ensures (plain_at f (bytes "global") s c.rest-left.result.now) (λ i u v h. search rules)))
+    (c.rows-3.ensures (upvalue_at f c.rest-last.result.now) (λ i u v h. search rules)))

@@ -2,7 +2,7 @@ use mathlib.Core.Path.{sym, ap, ◌∙◌}
 use mathlib.Core.List.{List, [], ◌∷◌, ◌++◌}
 use Prim.Native.Nat.{ℕ, ◌-◌, ◌+◌}
 use native.Mathlib.Omega.{arith}
-use Rattle.tables.specs.Record.{size}
+use Rattle.tables.specs.Record.{word, size}
 use Rattle.listing.specs.Print.{after, decimal, idents}
 use Rattle.listing.proofs.WriterLaws.{left_next, left_none, on}
 use Rattle.listing.proofs.PrintLaws.{idents_none, idents_last, idents_more}
@@ -11,25 +11,25 @@ use Rattle.listing.proofs.print.put_idents.Goals as goal
 pub returns-then-r-eq0 : goal.returns-then-r-eq0
 returns-then-r-eq0 c =
     let a = c.args in
-    let l = c.loop-i in
+    let l = c.loop in
     c.last_param.ensures
     ∙ sym (l.invariant ∙ ap (λ (ts : List ℕ). after ts l.w)
-    (idents_last (c.size-i-end.result - l.i) a.recs.now a.detail l.r _ _ (omega arith) c.q-string.ensures c.next-r.ensures c.if-r-eq0.true))
+    (idents_last (c.size-end.result - l.counter) a.recs.now (word a.recs.now a.list 1) l.r _ _ (omega arith) c.q-string.ensures c.next-r.ensures c.if-r-eq0.true))
 
-pub loop-i-preserved : goal.loop-i-preserved
-loop-i-preserved c =
+pub loop-preserved : goal.loop-preserved
+loop-preserved c =
     let a = c.args in
-    let l = c.loop-i in
-    let n = c.size-i-end.result in
+    let l = c.loop in
+    let n = c.size-end.result in
     let s = c.q-string.result in
-    let all = idents (size a.recs.now) a.recs.now a.detail a.from in
+    let all = idents (size a.recs.now) a.recs.now (word a.recs.now a.list 1) a.from in
     left_next all (decimal s ++ (44 ∷ [])) _ l.w a.w.now
     (l.invariant ∙ ap (λ (ts : List ℕ). after ts l.w)
-    (idents_more (n - l.i) (n - (l.i + 1)) a.recs.now a.detail l.r s _ (omega arith) c.q-string.ensures c.next-r.ensures c.if-r-eq0.false))
-    (on _ _ _ _ c.number.ensures c.put.ensures)
+    (idents_more (n - l.counter) (n - (l.counter + 1)) a.recs.now (word a.recs.now a.list 1) l.r s _ (omega arith) c.q-string.ensures c.next-r.ensures c.if-r-eq0.false))
+    (on _ _ _ _ (c.number.ensures ∙ ap (λ (n : ℕ). after (decimal n) l.w) c.from.ensures) c.put.ensures)
 
 pub returns : goal.returns
 returns c =
     let a = c.args in
-    let l = c.loop-i in
-    left_none _ _ (l.invariant ∙ ap (λ (ts : List ℕ). after ts l.w) (idents_none (c.size-i-end.result - l.i) a.recs.now a.detail l.r (omega arith)))
+    let l = c.loop in
+    left_none _ _ (l.invariant ∙ ap (λ (ts : List ℕ). after ts l.w) (idents_none (c.size-end.result - l.counter) a.recs.now (word a.recs.now a.list 1) l.r (omega arith)))

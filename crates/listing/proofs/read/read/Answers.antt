@@ -41,7 +41,8 @@ returns-in_err-table-4 c =
     let a = c.args in
     let h : c.from_residual-in_err-table-4.result ≡ Err c.in_err-table-4.field-0.0 = search rules in
     let r = rooms_of (words a.lent.now) in
-    let e = off _ (onto _ (onto _ (onto _ (onto (then1 r) (first r a.text.now) c.in_ok-texts.ensures.2) c.in_ok-table.ensures.1) c.in_ok-table-2.ensures.1) c.in_ok-table-3.ensures.1) c.in_err-table-4.ensures in
+    let e = off _ (onto _ (onto _ (onto _ (onto (then1 r) (first r a.text.now) c.in_ok-texts.ensures.2) c.in_ok-table.ensures.1) c.in_ok-table-2.ensures.1)
+    c.in_ok-table-3.ensures.1) c.in_err-table-4.ensures in
     record { answer = rw (h, e) refl; tables = rw e tt; rest = rw e tt; same = search rules }
 
 pub returns-in_err-table-5 : goal.returns-in_err-table-5
@@ -49,7 +50,9 @@ returns-in_err-table-5 c =
     let a = c.args in
     let h : c.from_residual-in_err-table-5.result ≡ Err c.in_err-table-5.field-0.0 = search rules in
     let r = rooms_of (words a.lent.now) in
-    let e = off _ (onto _ (onto _ (onto _ (onto _ (onto (then1 r) (first r a.text.now) c.in_ok-texts.ensures.2) c.in_ok-table.ensures.1) c.in_ok-table-2.ensures.1) c.in_ok-table-3.ensures.1) c.in_ok-table-4.ensures.1) c.in_err-table-5.ensures in
+    let e = off _ (onto _
+    (onto _ (onto _ (onto _ (onto (then1 r) (first r a.text.now) c.in_ok-texts.ensures.2) c.in_ok-table.ensures.1) c.in_ok-table-2.ensures.1) c.in_ok-table-3.ensures.1)
+    c.in_ok-table-4.ensures.1) c.in_err-table-5.ensures in
     record { answer = rw (h, e) refl; tables = rw e tt; rest = rw e tt; same = search rules }
 
 pub returns-in_err-blank : goal.returns-in_err-blank
@@ -57,7 +60,9 @@ returns-in_err-blank c =
     let a = c.args in
     let h : c.from_residual-in_err-blank.result ≡ Err c.in_err-blank.field-0.0 = search rules in
     let r = rooms_of (words a.lent.now) in
-    let e = onto _ (onto _ (onto _ (onto _ (onto _ (onto (then1 r) (first r a.text.now) c.in_ok-texts.ensures.2) c.in_ok-table.ensures.1) c.in_ok-table-2.ensures.1) c.in_ok-table-3.ensures.1) c.in_ok-table-4.ensures.1) c.in_ok-table-5.ensures.1 ∙ c.in_err-blank.ensures _ in
+    let e = onto _ (onto _
+    (onto _ (onto _ (onto _ (onto (then1 r) (first r a.text.now) c.in_ok-texts.ensures.2) c.in_ok-table.ensures.1) c.in_ok-table-2.ensures.1) c.in_ok-table-3.ensures.1)
+    c.in_ok-table-4.ensures.1) c.in_ok-table-5.ensures.1 ∙ c.in_err-blank.ensures _ in
     record { answer = rw (h, e) refl; tables = rw e tt; rest = rw e tt; same = search rules }
 
 pub returns : goal.returns
@@ -95,5 +100,7 @@ returns c =
     let n = counts s o w one two three four five six seven in
     let b = begin s o w one two three four five six seven in
     let p = past s o w one two three four five six seven in
-    let e = onto _ (onto _ (onto _ (onto _ (onto _ (onto (then1 r) (first r a.text.now) c.in_ok-texts.ensures.2) c.in_ok-table.ensures.1) c.in_ok-table-2.ensures.1) c.in_ok-table-3.ensures.1) c.in_ok-table-4.ensures.1) c.in_ok-table-5.ensures.1 ∙ c.in_ok-blank.ensures t in
+    let e = onto _ (onto _
+    (onto _ (onto _ (onto _ (onto (then1 r) (first r a.text.now) c.in_ok-texts.ensures.2) c.in_ok-table.ensures.1) c.in_ok-table-2.ensures.1) c.in_ok-table-3.ensures.1)
+    c.in_ok-table-4.ensures.1) c.in_ok-table-5.ensures.1 ∙ c.in_ok-blank.ensures t in
     record { answer = ap Ok n ∙ ap reading_of (sym e); tables = rw e b; rest = rw e p; same = search rules }

@@ -1,5 +1,5 @@
 use Rattle.std.proofs.Common.{ap, ◌∙◌, ◌+◌, arith, ℕ, take, length}
-use Rattle.listing.specs.Lines.{lines_of, Took}
+use Rattle.listing.specs.Lines.{lines_of}
 use Rattle.listing.specs.Text.{onward_text, strings_of}
 use Rattle.listing.proofs.ReadLaws.{agree_on, agree_upto}
 use Rattle.listing.proofs.StringsLaws.{text_further}
@@ -9,9 +9,8 @@ pub loop-line-preserved : goal.loop-line-preserved
 loop-line-preserved c =
     let a = c.args in
     let p = c.loop-line in
-    let f : Took p.lines.rest.now p.lines.number c.in_ok-line.line.now c.next_line.new.self.rest.now c.next_line.new.self.number =
-    rw c.in_ok-line.ensures.ok_part at c.next_line.ensures in
-    let t = text_further (length a.strings.now) (length a.bytes.now) p.lines.number p.used p.held p.strings p.bytes _ _ p.invariant.follows c.in_ok-line.line.now _ f.lines
+    let f = c.in-Some.ensures.0 in
+    let t = text_further (length a.strings.now) (length a.bytes.now) p.lines.number p.used p.held p.strings p.bytes _ _ p.invariant.follows c.in-Some.line.bytes.now _ f.lines
     (grind arith) c.string_entry.new.strings c.string_entry.new.bytes c.in_ok-held.held _ (omega arith) (omega arith) c.string_entry.ensures c.in_ok-held.ensures.ok_part
     (omega arith) (omega arith) (omega arith) in record {
       few = omega arith;

@@ -12,7 +12,8 @@ loop-case-smaller c =
 
 pub loop-case-preserved : goal.loop-case-preserved
 loop-case-preserved c =
-    cases_again c.args.tree.now.records.now c.args.tree.now.notes.now c.loop-case.invariant c.loop-case-test.true c.case_patterns.ensures c.next-case.ensures c.next_label-label.ensures
+    cases_again c.args.tree.now.records.now c.args.tree.now.notes.now c.loop-case.invariant c.loop-case-test.true c.case_patterns.ensures c.next-case.ensures
+    c.next_label-label.ensures
 
 pub returns : goal.returns
 returns c =

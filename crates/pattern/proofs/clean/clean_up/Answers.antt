@@ -1,10 +1,11 @@
+use Rattle.context.proofs.MarkLaws.{sent}
 use Rattle.pattern.proofs.CleanLaws.{clean_again, clean_done}
 use mathlib.Core.Path.{refl}
 use Rattle.pattern.proofs.clean.clean_up.Goals as goal
 
 pub loop-n-preserved : goal.loop-n-preserved
 loop-n-preserved c =
-    clean_again c.loop-n.invariant c.loop-n-test.true refl c.clean_stack_label.ensures c.push_label.ensures c.push_op.ensures
+    clean_again c.loop-n.invariant c.loop-n-test.true refl c.clean_stack_label.ensures c.push_label.ensures (sent _ c.push_code.ensures.1 c.push_code.ensures.2)
 
 pub returns : goal.returns
 returns c =

@@ -1,4 +1,6 @@
-use mathlib.Core.Path.{sym, ◌∙◌}
+use Rattle.tables.proofs.KindLaws.{numbered, unlike}
+use Rattle.tables.specs.declared.kind.Kind.TheVariants as kind
+use Rattle.context.proofs.MarkLaws.{sent}
 use Prim.Native.Nat.{suc}
 use native.Mathlib.Omega.{arith}
 use Rattle.rules.specs.Patterns.{item as item_part, key as key_part}
@@ -23,7 +25,7 @@ pub list-returns : goal.list-returns
 list-returns t c =
     list_visits c.args.tree.now.records.now c.args.tree.now.notes.now c.first-item.ensures c.width.ensures c.saturating_add-inside.ensures c.deepened-taken.ensures
     c.clean_stack_label-clean_stack_label.ensures c.push_table_test.ensures
-    c.capped-items.ensures c.loop-item.invariant c.loop-item-test.false c.push_op.ensures
+    c.capped-items.ensures c.loop-item.invariant c.loop-item-test.false (sent _ c.push_code.ensures.1 c.push_code.ensures.2)
 
 pub table-loop-key-init : goal.table-loop-key-init
 table-loop-key-init t c =
@@ -55,7 +57,7 @@ pub table-returns : goal.table-returns
 table-returns t c =
     table_visits c.args.tree.now.records.now c.args.tree.now.notes.now c.first-key.ensures c.width.ensures c.saturating_add-inside.ensures c.deepened-taken.ensures
     c.clean_stack_label-clean_stack_label.ensures c.push_table_test.ensures
-    c.capped-pairs.ensures c.loop-key.invariant.turn c.loop-key-test.false c.push_op.ensures
+    c.capped-pairs.ensures c.loop-key.invariant.turn c.loop-key-test.false (sent _ c.push_code.ensures.1 c.push_code.ensures.2)
 
 pub visit_pattern_depth-returns-then-pattern-eq0 : goal.visit_pattern_depth-returns-then-pattern-eq0
 visit_pattern_depth-returns-then-pattern-eq0 t c =
@@ -69,13 +71,13 @@ pub visit_pattern_depth-list-requires : goal.visit_pattern_depth-list-requires
 visit_pattern_depth-list-requires t c =
     (nested_falls c.args.tree.now.records.now c.args.pattern t c.if-pattern-eq0.false c.decreases, tt)
 
-pub visit_pattern_depth-returns-in-36 : goal.visit_pattern_depth-returns-in-36
-visit_pattern_depth-returns-in-36 t c =
-    visit_ident c.args.tree.now.records.now c.args.tree.now.notes.now c.if-pattern-eq0.false c.clean_stack_label-next_pattern_label.ensures (sym c.kind.ensures ∙ c.in-36.is) c.ident.ensures
+pub visit_pattern_depth-returns-in-IdentPattern : goal.visit_pattern_depth-returns-in-IdentPattern
+visit_pattern_depth-returns-in-IdentPattern t c =
+    visit_ident c.args.tree.now.records.now c.args.tree.now.notes.now c.if-pattern-eq0.false c.clean_stack_label-next_pattern_label.ensures
+    (numbered _ _ kind.IdentPattern c.kind.ensures c.in-IdentPattern.is tt) c.ident.ensures
 
 pub visit_pattern_depth-returns-in_default : goal.visit_pattern_depth-returns-in_default
 visit_pattern_depth-returns-in_default t c =
-    let k = c.in_default.in_default-own.rest in
-    visit_lit c.args.tree.now.records.now c.args.tree.now.notes.now c.if-pattern-eq0.false c.clean_stack_label-next_pattern_label.ensures (λ z. k.0.0.1 (c.kind.ensures ∙ z)) (λ z. k.0.1
-    (c.kind.ensures ∙ z))
-    (λ z. k.1 (c.kind.ensures ∙ z)) c.lit.ensures
+    visit_lit c.args.tree.now.records.now c.args.tree.now.notes.now c.if-pattern-eq0.false c.clean_stack_label-next_pattern_label.ensures
+    (unlike _ _ kind.TablePattern c.kind.ensures c.in_default.not-TablePattern tt) (unlike _ _ kind.ListPattern c.kind.ensures c.in_default.not-ListPattern tt)
+    (unlike _ _ kind.IdentPattern c.kind.ensures c.in_default.not-IdentPattern tt) c.lit.ensures

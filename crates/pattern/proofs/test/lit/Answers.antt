@@ -1,4 +1,4 @@
-use Rattle.context.proofs.MarkLaws.{jumped, said}
+use Rattle.context.proofs.MarkLaws.{sent, jumped, said}
 use Rattle.plain.proofs.LeafLaws.{lit_loaded}
 use Rattle.rules.specs.Marker.{Eq, PopJumpIfFalse}
 use Rattle.tables.specs.Record.{word}
@@ -13,7 +13,7 @@ returns c =
             let r₁ = c.args.tree.now.records.now in
             let i = c.args.pattern in
             let h1 = lit_loaded q (word r₁ i 1) (word r₁ i 2) (word r₁ i 3) c.push_lit.ensures h in
-            let h2 = said r Eq 0 refl refl c.push_op.ensures h1 in
-            jumped r PopJumpIfFalse y refl e c.push_op-2.ensures h2;
+            let h2 = said r Eq 0 refl refl (sent _ c.push_code.ensures.1 c.push_code.ensures.2) h1 in
+            jumped r PopJumpIfFalse y refl e (sent _ c.push_code-2.ensures.1 c.push_code-2.ensures.2) h2;
       };
     }

@@ -1,3 +1,6 @@
+use mathlib.Core.Path.{refl}
+use Rattle.tables.proofs.KindLaws.{other_kind, same_kind}
+use Rattle.tables.specs.declared.kind.Kind.TheVariants as kind
 use Prim.Native.Nat.{ℕ}
 use Rattle.context.proofs.RepLaws.{resim, stay}
 use Rattle.context.proofs.VisitLaws.{visit_none}
@@ -13,20 +16,20 @@ pub returns-then-left-eq0 : goal.returns-then-left-eq0
 returns-then-left-eq0 c =
     resim (λ m z A. ap (λ (l : ℕ). visit_in (lent c.args.tree.now) m After l A) c.if-left-eq0.true ∙ visit_none (lent c.args.tree.now) m After A) stay
 
-pub returns-then-kind-ne-LEFT : goal.returns-then-kind-ne-LEFT
-returns-then-kind-ne-LEFT c =
-    resim (λ m z A. after_other (lent c.args.tree.now) m c.args.left c.if-left-eq0.false _ c.kind.ensures c.if-kind-ne-LEFT.true
+pub returns-then-ne : goal.returns-then-ne
+returns-then-ne c =
+    resim (λ m z A. after_other (lent c.args.tree.now) m c.args.left c.if-left-eq0.false _ refl (other_kind _ _ kind.Left _ c.kind.ensures c.ne.ensures tt c.if-ne.true)
     A) stay
 
 pub returns-then-detail-eq-PLAIN : goal.returns-then-detail-eq-PLAIN
 returns-then-detail-eq-PLAIN c =
-    resim (λ m z A. after_plain (lent c.args.tree.now) m c.args.left c.if-left-eq0.false _ c.kind.ensures _ _ c.if-kind-ne-LEFT.false
+    resim (λ m z A. after_plain (lent c.args.tree.now) m c.args.left c.if-left-eq0.false _ refl _ _ (same_kind _ _ kind.Left _ c.kind.ensures c.ne.ensures tt c.if-ne.false)
     c.detail.ensures c.first-ident.ensures c.if-detail-eq-PLAIN.true A)
     (record { sim = λ z m o₀ A h. used_at (lent c.args.tree.now) c.args.left Set _ c.store.ensures h })
 
 pub returns : goal.returns
 returns c =
-    resim (λ m z A. after_member (lent c.args.tree.now) m c.args.left c.if-left-eq0.false _ c.kind.ensures _ _ c.if-kind-ne-LEFT.false
+    resim (λ m z A. after_member (lent c.args.tree.now) m c.args.left c.if-left-eq0.false _ refl _ _ (same_kind _ _ kind.Left _ c.kind.ensures c.ne.ensures tt c.if-ne.false)
     c.detail.ensures c.first-ident.ensures c.if-detail-eq-PLAIN.false c.left_property.ensures A)
     (record {
       sim = λ z m o₀ A h. used_at (lent c.args.tree.now) c.args.left Set _ c.store-2.ensures ((c.set_member.ensures c.args.tree.now.records.now c.args.left).moves m o₀ A h);

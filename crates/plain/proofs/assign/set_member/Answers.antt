@@ -1,4 +1,4 @@
-use Rattle.context.proofs.MarkLaws.{said}
+use Rattle.context.proofs.MarkLaws.{sent, said}
 use Rattle.context.proofs.RepLaws.{given}
 use Rattle.plain.proofs.OperatorLaws.{push_as}
 use Rattle.opcode.specs.Members.{member_number}
@@ -14,7 +14,7 @@ pub returns-then-is_meta : goal.returns-then-is_meta
 returns-then-is_meta c =
     λ recs r. record {
       moves = λ m o₀ A h.
-          let h1 = said r Swap 2 refl refl c.push_op.ensures h in
+          let h1 = said r Swap 2 refl refl (sent _ c.push_code.ensures.1 c.push_code.ensures.2) h in
           given (ap (λ (b : Bool). emit (mark r (Do (set_code (member_number c.args.property)) 0)) (emit (mark r (Do Swap 2)) (cond b A (emit (mark r (Do Swap
           3)) A)))) (sym c.is_meta.ensures ∙ c.if-is_meta.true)) (said r (set_code (member_number c.args.property)) 0 refl refl (push_as _ (set_own c.args.property)
           c.push_set.ensures) h1);
@@ -24,8 +24,8 @@ pub returns : goal.returns
 returns c =
     λ recs r. record {
       moves = λ m o₀ A h.
-          let h1 = said r Swap 3 refl refl c.push_op-2.ensures h in
-          let h2 = said r Swap 2 refl refl c.push_op-3.ensures h1 in
+          let h1 = said r Swap 3 refl refl (sent _ c.push_code-2.ensures.1 c.push_code-2.ensures.2) h in
+          let h2 = said r Swap 2 refl refl (sent _ c.push_code-3.ensures.1 c.push_code-3.ensures.2) h1 in
           given (ap (λ (b : Bool). emit (mark r (Do (set_code (member_number c.args.property)) 0)) (emit (mark r (Do Swap 2)) (cond b A (emit (mark r (Do Swap
           3)) A)))) (sym c.is_meta.ensures ∙ c.if-is_meta.false)) (said r (set_code (member_number c.args.property)) 0 refl refl (push_as _ (set_own c.args.property)
           c.push_set-2.ensures) h2);

@@ -1,28 +1,23 @@
-use Rattle.plain.proofs.CountLaws.{arguments_handler, arguments_most, arguments_none, arguments_other, width_falls}
-use mathlib.Core.Path.{refl}
+use Rattle.plain.proofs.CountLaws.{numbers_width, width_most}
+use Rattle.plain.proofs.SiblingLaws.{is_argument, not_handler, arguments_first}
+use Rattle.std.proofs.Common.{rules}
+use Rattle.std.proofs.lemmas.Iterator.Consumers.{YieldsList-from_first, count_from_yields_List}
+use Rattle.std.proofs.lemmas.Iterator.Search.{YieldsList-from_take_while}
+use Rattle.std.proofs.lemmas.List.Folds.{length-prefix_len}
+use Rattle.plain.specs.Siblings.{left}
+use mathlib.Core.Logic.{inl}
+use mathlib.Core.Path.{◌∙◌, ap}
+use lib.ListN.{length}
 use native.Mathlib.Omega.{arith}
 use Rattle.plain.proofs.children.arguments_len.Goals as goal
 
-pub returns-then-kind-eq-HANDLER : goal.returns-then-kind-eq-HANDLER
-returns-then-kind-eq-HANDLER c =
-    omega (arith, arguments_handler c.args.recs.now _ _ c.loop-at-test.true c.kind.ensures c.if-kind-eq-HANDLER.true)
-
-pub overflow_add-n : goal.overflow_add-n
-overflow_add-n c =
-    omega (
-      arith,
-      arguments_most c.args.recs.now c.args.c,
-      arguments_other c.args.recs.now _ _ _ c.loop-at-test.true refl c.kind.ensures c.if-kind-eq-HANDLER.false,
-    )
-
-pub loop-at-smaller : goal.loop-at-smaller
-loop-at-smaller c =
-    omega (arith, width_falls c.args.recs.now _ _ c.loop-at-test.true c.next-at.ensures)
-
-pub loop-at-preserved : goal.loop-at-preserved
-loop-at-preserved c =
-    omega (arith, arguments_other c.args.recs.now _ _ _ c.loop-at-test.true c.next-at.ensures c.kind.ensures c.if-kind-eq-HANDLER.false)
+pub count-requires-clause-fits : goal.count-requires-clause-fits
+count-requires-clause-fits c =
+    inl (omega (arith, ap (λ s. length (left s)) c.take_while.ensures.source, ap length c.new.ensures, numbers_width c.args.recs.now c.args.c, width_most c.args.recs.now c.args.c))
 
 pub returns : goal.returns
 returns c =
-    omega (arith, arguments_none c.args.recs.now _ c.loop-at-test.false)
+    count_from_yields_List _ c.count.result c.count.ensures.ran
+    (YieldsList-from_take_while _ (is_argument c.args.recs.now) (YieldsList-from_first (λ x. x) left _ (ap left c.take_while.ensures.source ∙ c.new.ensures))
+    c.take_while.ensures.closure c.take_while.ensures.done (λ x b q k. search (rules, not_handler c.args.recs.now)))
+    ∙ length-prefix_len (is_argument c.args.recs.now) _ ∙ arguments_first c.args.recs.now c.args.c

@@ -19,7 +19,8 @@ unfolding does doing exec
 returns c =
     record {
       sim = λ z m o₀ A h.
-          let h1 = str_loaded (number_of (spot_at (tree c.args.item (words c.args.tree.now.records.now c.args.item) (children c.args.tree.now.records.now c.args.item) none) (0 ∷ [])))
+          let h1 = str_loaded (number_of
+          (spot_at (tree c.args.item (words c.args.tree.now.records.now c.args.item) (children c.args.tree.now.records.now c.args.item) none) (0 ∷ [])))
           ImportFrom _ (c.name_of.ensures ∙ ap (λ (l : ℕ). (child (own_tree (forest c.args.tree.now.records.now l)) 0).q) c.first-name.ensures) c.push_import_from.ensures h in
           used_child (lent c.args.tree.now) c.args.item Set (cond (eqb (word c.args.tree.now.records.now c.args.item 1) 1) 1
           0) (c.alias.ensures ∙ ap (nth c.args.tree.now.records.now (cond (eqb (word c.args.tree.now.records.now c.args.item 1) 1) 1 0)) c.first-name.ensures)

@@ -1,4 +1,4 @@
-use Rattle.context.proofs.MarkLaws.{said}
+use Rattle.context.proofs.MarkLaws.{sent, said}
 use Rattle.plain.proofs.LeafLaws.{int_loaded}
 use Rattle.rules.specs.Marker.{Copy, GetItem}
 use mathlib.Core.Path.{refl}
@@ -8,7 +8,7 @@ pub returns : goal.returns
 returns c =
     record {
       moves = λ r q. record {
-        moves = λ m o₀ A h. said r GetItem 0 refl refl c.push_op-2.ensures (int_loaded q c.args.i refl c.push_load_const.ensures (said r Copy 1
-            refl refl c.push_op.ensures h));
+        moves = λ m o₀ A h. said r GetItem 0 refl refl (sent _ c.push_code-2.ensures.1 c.push_code-2.ensures.2) (int_loaded q c.args.i refl c.push_load_const.ensures (said r Copy 1
+            refl refl (sent _ c.push_code.ensures.1 c.push_code.ensures.2) h));
       };
     }

@@ -1,4 +1,4 @@
-use Rattle.context.proofs.MarkLaws.{said}
+use Rattle.context.proofs.MarkLaws.{sent, said}
 use Rattle.plain.proofs.LeafLaws.{lit_loaded}
 use Rattle.rules.specs.Marker.{Copy, GetItem}
 use Rattle.tables.specs.Record.{word}
@@ -9,7 +9,8 @@ pub returns : goal.returns
 returns c =
     record {
       moves = λ r q. record {
-        moves = λ m o₀ A h. said r GetItem 0 refl refl c.push_op-2.ensures (lit_loaded q (word c.args.tree.now.records.now c.args.key 1) (word c.args.tree.now.records.now c.args.key 2)
-            (word c.args.tree.now.records.now c.args.key 3) c.push_lit.ensures (said r Copy 1 refl refl c.push_op.ensures h));
+        moves = λ m o₀ A h. said r GetItem 0 refl refl (sent _ c.push_code-2.ensures.1 c.push_code-2.ensures.2)
+            (lit_loaded q (word c.args.tree.now.records.now c.args.key 1) (word c.args.tree.now.records.now c.args.key 2)
+            (word c.args.tree.now.records.now c.args.key 3) c.push_lit.ensures (said r Copy 1 refl refl (sent _ c.push_code.ensures.1 c.push_code.ensures.2) h));
       };
     }

@@ -1,3 +1,4 @@
+use Rattle.context.proofs.MarkLaws.{sent}
 use Rattle.context.proofs.LeaveLaws.{left_some}
 use Rattle.context.specs.Does.{does, doing}
 use Rattle.plain.proofs.EndLaws.{break_behind, cut_off, no_break}
@@ -23,6 +24,6 @@ returns c =
     λ notes. record {
       sim = λ z m o₀ A h.
           let q = break_behind _ _ (sym c.break_label.ensures ∙ c.in-Some.is) in
-          let h1 = left_some c.args.r (words c.args.tree.now.records.now c.args.r) Break refl h q.1 q.2 c.push_op.ensures in
+          let h1 = left_some c.args.r (words c.args.tree.now.records.now c.args.r) Break refl h q.1 q.2 (sent _ c.push_code.ensures.1 c.push_code.ensures.2) in
           nulled c.args.r c.push_null.ensures h1;
     }

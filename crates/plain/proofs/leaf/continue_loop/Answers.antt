@@ -1,3 +1,4 @@
+use Rattle.context.proofs.MarkLaws.{sent}
 use Rattle.context.proofs.LeaveLaws.{left_some}
 use Rattle.context.specs.Does.{does, doing}
 use Rattle.plain.proofs.EndLaws.{cut_off}
@@ -22,6 +23,7 @@ unfolding does doing exec
 returns c =
     λ notes. record {
       sim = λ z m o₀ A h.
-          let h1 = left_some c.args.r (words c.args.tree.now.records.now c.args.r) Continue c.continue_label.ensures h c.in-Some.is refl c.push_op.ensures in
+          let h1 = left_some c.args.r (words c.args.tree.now.records.now c.args.r) Continue c.continue_label.ensures h c.in-Some.is refl
+          (sent _ c.push_code.ensures.1 c.push_code.ensures.2) in
           nulled c.args.r c.push_null.ensures h1;
     }

@@ -1,5 +1,5 @@
 use Prim.Native.Nat.{ℕ}
-use Rattle.context.proofs.MarkLaws.{jumped}
+use Rattle.context.proofs.MarkLaws.{sent, jumped}
 use Rattle.context.proofs.RepLaws.{given, label, labelled}
 use Rattle.context.specs.Rep.{lent}
 use Rattle.plain.proofs.LeafLaws.{used_at}
@@ -18,7 +18,7 @@ returns c =
           let l = label c.get_label-handler_label.ensures h in
           let h1 = labelled c.get_label-handler_label.ensures h in
           let h2 = used_at (lent c.args.tree.now) r Get _ c.load.ensures h1 in
-          let h3 = jumped r RegisterHandler (labels A) refl l c.push_op.ensures h2 in
+          let h3 = jumped r RegisterHandler (labels A) refl l (sent _ c.push_code.ensures.1 c.push_code.ensures.2) h2 in
           given (ap (λ (i : ℕ). emit (mark r (To RegisterHandler (labels A))) (use_at (lent c.args.tree.now) r Get i (bump A))) (sym
           c.first_child-effect.ensures)) h3;
     }

@@ -1,5 +1,5 @@
 use Rattle.context.proofs.Basics.{on_false, on_true}
-use Rattle.context.proofs.MarkLaws.{said}
+use Rattle.context.proofs.MarkLaws.{sent, said}
 use Rattle.context.proofs.RepLaws.{given}
 use Rattle.context.specs.Rep.{lent}
 use Rattle.plain.proofs.LeafLaws.{used_at}
@@ -18,6 +18,7 @@ returns-then-n-eq1 c =
 pub returns : goal.returns
 returns c =
     λ r. record {
-      moves = λ m o₀ A h. given (on_false _ _ _ (ne_eqb _ 1 c.if-n-eq1.false)) (said r Pop 0 refl refl c.push_op.ensures ((c.items.ensures r).moves
+      moves = λ m o₀ A h. given (on_false _ _ _ (ne_eqb _ 1 c.if-n-eq1.false))
+          (said r Pop 0 refl refl (sent _ c.push_code.ensures.1 c.push_code.ensures.2) ((c.items.ensures r).moves
           m o₀ A h));
     }

@@ -1,6 +1,6 @@
 use Prim.Native.Nat.{ℕ}
 use Rattle.context.proofs.Basics.{on_false}
-use Rattle.context.proofs.MarkLaws.{jumped}
+use Rattle.context.proofs.MarkLaws.{sent, jumped}
 use Rattle.context.proofs.RepLaws.{given}
 use Rattle.rules.specs.Marker.{JumpPopIfNull}
 use borrow.Author.Tests.{le-ltb}
@@ -13,6 +13,6 @@ returns c =
     record {
       moves = λ a q. record {
         moves = λ m o₀ A h. given (on_false _ _ _ (ap (λ (d : ℕ). ltb d 8) (sym c.detail.ensures) ∙ le-ltb _ 8 c.if-detail-lt-SAFE.false))
-            (jumped c.args.r JumpPopIfNull a refl q c.push_op.ensures h);
+            (jumped c.args.r JumpPopIfNull a refl q (sent _ c.push_code.ensures.1 c.push_code.ensures.2) h);
       };
     }

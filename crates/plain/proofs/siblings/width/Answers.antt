@@ -1,21 +1,15 @@
-use Rattle.context.proofs.PartLaws.{width_none}
-use Rattle.plain.proofs.CountLaws.{width_falls, width_most}
-use mathlib.Core.Path.{refl}
+use Rattle.plain.proofs.CountLaws.{numbers_width, width_most}
+use Rattle.std.proofs.lemmas.Iterator.Consumers.{YieldsList-from_first, count_from_yields_List}
+use mathlib.Core.Logic.{inl}
+use mathlib.Core.Path.{◌∙◌, refl, ap}
+use lib.ListN.{length}
 use native.Mathlib.Omega.{arith}
 use Rattle.plain.proofs.siblings.width.Goals as goal
 
-pub overflow_add-n : goal.overflow_add-n
-overflow_add-n c =
-    omega (arith, width_most c.args.recs.now c.args.c, width_falls c.args.recs.now _ _ c.loop-at-test.true refl)
-
-pub loop-at-smaller : goal.loop-at-smaller
-loop-at-smaller c =
-    omega (arith, width_falls c.args.recs.now _ _ c.loop-at-test.true c.next-at.ensures)
-
-pub loop-at-preserved : goal.loop-at-preserved
-loop-at-preserved c =
-    omega (arith, width_falls c.args.recs.now _ _ c.loop-at-test.true c.next-at.ensures)
+pub count-requires-clause-fits : goal.count-requires-clause-fits
+count-requires-clause-fits c =
+    inl (omega (arith, ap length c.new.ensures, numbers_width c.args.recs.now c.args.c, width_most c.args.recs.now c.args.c))
 
 pub returns : goal.returns
 returns c =
-    omega (arith, width_none c.args.recs.now _ c.loop-at-test.false)
+    count_from_yields_List _ c.count.result c.count.ensures.ran (YieldsList-from_first _ _ _ refl) ∙ ap length c.new.ensures ∙ numbers_width c.args.recs.now c.args.c

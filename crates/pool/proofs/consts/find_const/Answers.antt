@@ -13,4 +13,5 @@ returns c =
     let a = c.args in
     let v = (constant a.records.now a.words).value in
     sought a.records.now a.consts.now v a.n _ _ c.min.ensures
-    (find_from_yields_List (hit a.records.now a.consts.now v) _ _ c.find.result c.find.ensures.ran (YieldsList-from_range 0 c.min.result _ refl (omega arith)) (λ x b q k. search (rules, tests)))
+    (find_from_yields_List (hit a.records.now a.consts.now v) _ _ c.find.result c.find.ensures.ran (YieldsList-from_range 0 c.min.result _ refl (omega arith))
+    (λ x b q k. search (rules, tests)))

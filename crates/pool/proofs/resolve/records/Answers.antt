@@ -1,13 +1,9 @@
-use Rattle.pool.proofs.RecordPass.{pass_begin, pass_done, pass_next}
+use Rattle.pool.proofs.RecordPass.{pass_next}
 use mathlib.Core.Logic.{inl, inr}
 use mathlib.Core.Path.{◌∙◌, refl, sym}
 use native.Mathlib.Omega.{arith}
 use Rattle.pool.proofs.resolve.records.Goals as goal
 use Rattle.pool.proofs.resolve.records.Goals.{then-is_ident, else-is_ident}
-
-pub loop-r-init : goal.loop-r-init
-loop-r-init c =
-    (c.size-n.ensures, c.if-n-gt4096.false, pass_begin c.args.recs.now c.args.notes.now c.args.idents.now _ refl)
 
 pub loop-r-preserved : goal.loop-r-preserved
 loop-r-preserved c = (
@@ -24,7 +20,3 @@ loop-r-preserved c = (
         | else-is_ident w ↦ inr (sym c.is_ident.ensures ∙ w.if-is_ident.false, w.idents-is)
       ]),
 )
-
-pub returns : goal.returns
-returns c =
-    pass_done c.args.recs.now c.args.notes.now c.args.idents.now c.loop-r.r _ _ _ (omega (arith, c.loop-r.invariant.0, c.loop-r-test.false)) c.loop-r.invariant.2

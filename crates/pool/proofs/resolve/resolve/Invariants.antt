@@ -6,6 +6,5 @@ use Rattle.pool.proofs.resolve.resolve.Given as goal
 
 abbrev pub invariant-loop-f : goal.invariant-loop-f
 invariant-loop-f l =
-    (l.f-end ≡ pairs l.functions) × (length l.entries ≡ length l.initial.entries) × (length l.spans ≡ length l.initial.spans) × Turns l.symbols l.references l.functions
-    l.members l.recs l.initial.entries l.initial.spans
-    l.initial.notes l.initial.scope l.f l.entries l.spans l.notes l.scope
+    (l.f-end ≡ pairs l.tables.functions.now) × (length l.entries ≡ length l.initial.entries) × (length l.spans ≡ length l.initial.spans)
+    × Turns l.tables l.initial.entries l.initial.spans l.initial.notes l.initial.scope l.f l.entries l.spans l.notes l.scope

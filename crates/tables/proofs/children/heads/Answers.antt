@@ -1,6 +1,5 @@
-use mathlib.Core.Path.{ap, ◌∙◌}
+use mathlib.Core.Path.{◌∙◌}
 use borrow.Author.Tests.{eq-eqb}
-use Rattle.tables.specs.Children.{belongs as belongs_to}
 use Rattle.tables.proofs.ServeLaws.{heads_none, heads_some}
 use Rattle.tables.proofs.children.heads.Goals as goal
 
@@ -11,4 +10,4 @@ returns-else-c-ne0 c = simp (eq-eqb _ _ c.if-c-ne0.false) (heads_none _ _ _ c.if
 pub returns-then-c-ne0 : goal.returns-then-c-ne0
 returns-then-c-ne0 c =
     let arg = c.args in
-    c.belongs.ensures ∙ ap (belongs_to arg.class) c.kind.ensures ∙ heads_some arg.recs.now arg.c arg.class c.if-c-ne0.true
+    c.belongs.ensures _ c.kind.ensures ∙ heads_some arg.recs.now arg.c arg.class c.if-c-ne0.true

@@ -1,14 +1,6 @@
-use mathlib.Core.Path.{sym, ◌∙◌}
-use native.Mathlib.Omega.{arith}
-use Rattle.tables.proofs.ServeLaws.{left_times, took_one}
+use borrow.Author.Rules.{rules}
+use Rattle.tables.proofs.ServeLaws.{one_served}
 use Rattle.tables.proofs.children.one.Goals as goal
 
-pub returns-then-heads : goal.returns-then-heads
-returns-then-heads c = took_one _ _ _ c.next.ensures _ (sym c.heads.ensures ∙ c.if-heads.true)
-
 pub returns : goal.returns
-returns c =
-    record {
-      serves = λ ws. left_times _ _ _ 1 (omega arith) (sym c.heads.ensures ∙ c.if-heads.false) ws
-          ∙ sym (c.stray.ensures ws);
-    }
+returns c = one_served _ _ _ _ c.heads.ensures c.then.ensures.variant c.then.ensures.some (λ e h. search rules)

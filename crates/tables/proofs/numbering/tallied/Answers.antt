@@ -1,46 +1,37 @@
-use Rattle.std.proofs.Common.{◌∙◌, arith}
-use Rattle.tables.proofs.CountLaws.{first_small, next_small, down_start, turn_all, turn_left, turn_other, all_end, left_end}
-use Rattle.tables.proofs.numbering.tallied.Goals.{then-kind-eq-LEFT, else-kind-eq-LEFT}
+use Rattle.std.proofs.Common.{sym, ◌∙◌, arith}
+use Rattle.std.specs.Prelude.{◌≤◌}
+use Rattle.tables.specs.Record.{size}
+use Rattle.tables.proofs.CountLaws.{first_small, next_small, alls_start, lefts_start, turn_all, turn_left, turn_other, all_end, left_end}
+use Rattle.tables.proofs.KindLaws.{compared}
+use Rattle.tables.specs.declared.kind.Kind.TheVariants as kind
+use Rattle.tables.proofs.numbering.tallied.Goals.{then-eq, else-eq}
 use Rattle.tables.proofs.numbering.tallied.Goals as goal
 
 pub loop-r-init : goal.loop-r-init
-loop-r-init c = (down_start _ _ _ _ c.requires.all c.size-r.ensures, down_start _ _ _ _ c.requires.left c.size-r.ensures)
+loop-r-init c = (alls_start _ _ _ c.requires.blank c.size-r.ensures, lefts_start _ _ _ c.requires.blank c.size-r.ensures)
 
-pub offset_bounds-all-first : goal.offset_bounds-all-first
-offset_bounds-all-first c = omega (arith, first_small _ _ _ c.first.ensures c.requires.small)
+pub offset_bounds-counts-next : goal.offset_bounds-counts-next
+offset_bounds-counts-next c = omega (arith, next_small _ _ _ c.next.ensures c.requires.small)
 
-pub bounds-all-first : goal.bounds-all-first
-bounds-all-first c = first_small _ _ _ c.first.ensures c.requires.small
+pub bounds-counts-next : goal.bounds-counts-next
+bounds-counts-next c = next_small _ _ _ c.next.ensures c.requires.small
 
-pub offset_bounds-all-later : goal.offset_bounds-all-later
-offset_bounds-all-later c = omega (arith, next_small _ _ _ c.next-later.ensures c.requires.small)
+pub offset_bounds-counts-first : goal.offset_bounds-counts-first
+offset_bounds-counts-first c = omega (arith, first_small _ _ _ c.first.ensures c.requires.small)
 
-pub bounds-all-later : goal.bounds-all-later
-bounds-all-later c = next_small _ _ _ c.next-later.ensures c.requires.small
-
-pub offset_bounds-left-later : goal.offset_bounds-left-later
-offset_bounds-left-later c = omega (arith, next_small _ _ _ c.next-later.ensures c.requires.small)
-
-pub bounds-left-later : goal.bounds-left-later
-bounds-left-later c = next_small _ _ _ c.next-later.ensures c.requires.small
-
-pub offset_bounds-left-later-else-kind-eq-LEFT : goal.offset_bounds-left-later-else-kind-eq-LEFT
-offset_bounds-left-later-else-kind-eq-LEFT c = omega (arith, next_small _ _ _ c.next-later.ensures c.requires.small)
-
-pub bounds-left-later-else-kind-eq-LEFT : goal.bounds-left-later-else-kind-eq-LEFT
-bounds-left-later-else-kind-eq-LEFT c = next_small _ _ _ c.next-later.ensures c.requires.small
+pub bounds-counts-first : goal.bounds-counts-first
+bounds-counts-first c = first_small _ _ _ c.first.ensures c.requires.small
 
 pub loop-r-preserved : goal.loop-r-preserved
 loop-r-preserved c =
     let l = c.loop-r in
-    let all = turn_all _ c.requires.small l.all l.r _ _ _ c.first.ensures c.next-later.ensures c.own.ensures _ _ c.loop-r-test.true (omega (arith, c.size-r.ensures))
-    l.invariant.0 c.plus-whole.ensures c.plus.ensures in (
-      all,
-      elim c.if-kind-eq-LEFT.branch [
-        | then-kind-eq-LEFT w ↦ turn_left _ c.requires.small l.left l.r _ _ _ c.first.ensures c.next-later.ensures c.own.ensures l.all _ _ _ c.loop-r-test.true
-            (omega (arith, c.size-r.ensures)) l.invariant.0 l.invariant.1 c.plus-whole.ensures c.kind.ensures w.if-kind-eq-LEFT.true (w.left-is ∙ w.plus-then-kind-eq-LEFT.ensures)
-        | else-kind-eq-LEFT w ↦ turn_other _ c.requires.small l.left l.r _ _ _ c.first.ensures c.next-later.ensures c.own.ensures l.all _ _ _ c.loop-r-test.true
-            (omega (arith, c.size-r.ensures)) l.invariant.0 l.invariant.1 c.plus-whole.ensures c.kind.ensures w.if-kind-eq-LEFT.false w.left-is
+    let small : l.r ≤ size c.args.recs.now = omega (arith, c.size-r.ensures) in (
+      turn_all _ c.requires.small l.counts l.r _ _ _ _ c.loop-r-test.true small c.first.ensures c.next.ensures c.own.ensures l.invariant.0 c.plus-whole.ensures _ c.plus.ensures,
+      elim c.if-eq.branch [
+        | then-eq w ↦ turn_left _ c.requires.small l.counts l.r _ _ _ _ c.loop-r-test.true small c.first.ensures c.next.ensures c.own.ensures l.invariant.0 c.plus-whole.ensures
+            l.invariant.1 _ (sym (compared _ _ kind.Left c.kind.ensures tt) ∙ sym c.eq.ensures ∙ w.if-eq.true) (w.counts-is ∙ w.plus-then-eq.ensures)
+        | else-eq w ↦ turn_other _ c.requires.small l.counts l.r _ _ _ _ c.loop-r-test.true small c.first.ensures c.next.ensures c.own.ensures l.invariant.0 c.plus-whole.ensures
+            l.invariant.1 _ (sym (compared _ _ kind.Left c.kind.ensures tt) ∙ sym c.eq.ensures ∙ w.if-eq.false) w.counts-is
       ],
     )
 

@@ -9,27 +9,27 @@ use Rattle.tables.proofs.strings.strings_broken.Goals as goal
 
 pub loop-s-init : goal.loop-s-init
 loop-s-init c =
-    let a = c.args in
-    (rest_start (string_bad a.strings.now a.bytes.now) (pairs a.strings.now), λ h. c.new-chains.ensures (hash_at a.strings.now a.bytes.now))
+    let t = c.args.tables.now in
+    (rest_start (string_bad t.strings.now t.bytes.now) (pairs t.strings.now), λ h. c.new-chains.ensures (hash_at t.strings.now t.bytes.now))
 
-pub returns-then-string_bad : goal.returns-then-string_bad
-returns-then-string_bad c =
-    let a = c.args in
+pub returns-then-is_bad : goal.returns-then-is_bad
+returns-then-is_bad c =
+    let t = c.args.tables.now in
     let l = c.loop-s in
-    stop_at (string_bad a.strings.now a.bytes.now) (pairs a.strings.now) l.s _ l.invariant.0 (omega arith)
-    (sym c.string_bad.ensures ∙ c.if-string_bad.true)
+    stop_at (string_bad t.strings.now t.bytes.now) (pairs t.strings.now) l.s _ l.invariant.0 (omega arith)
+    (sym c.is_bad.ensures ∙ c.if-is_bad.true)
 
 pub loop-s-preserved : goal.loop-s-preserved
 loop-s-preserved c =
-    let a = c.args in
+    let t = c.args.tables.now in
     let l = c.loop-s in (
-      go_on (string_bad a.strings.now a.bytes.now) (pairs a.strings.now) l.s _ l.invariant.0 (omega arith)
-          (sym c.string_bad.ensures ∙ c.if-string_bad.false),
-      λ h. c.add.ensures (hash_at a.strings.now a.bytes.now) (omega arith) c.string_hash-h.ensures (l.invariant.1 (omega arith)),
+      go_on (string_bad t.strings.now t.bytes.now) (pairs t.strings.now) l.s _ l.invariant.0 (omega arith)
+          (sym c.is_bad.ensures ∙ c.if-is_bad.false),
+      λ h. c.add.ensures (omega arith) (l.invariant.1 (omega arith)),
     )
 
 pub returns : goal.returns
 returns c =
-    let a = c.args in
+    let t = c.args.tables.now in
     let l = c.loop-s in
-    ended (string_bad a.strings.now a.bytes.now) (pairs a.strings.now) l.s _ l.invariant.0 (omega arith)
+    ended (string_bad t.strings.now t.bytes.now) (pairs t.strings.now) l.s _ l.invariant.0 (omega arith)

@@ -9,5 +9,6 @@ use Rattle.tables.proofs.strings.strings_broken.Given as goal
 
 abbrev pub invariant-loop-s : goal.invariant-loop-s
 invariant-loop-s l =
-    (rest (string_bad l.strings l.bytes) (pairs l.strings) l.s ≡ broken (string_bad l.strings l.bytes) (pairs l.strings))
-    × (l.s < 1024 → Chained (hash_at l.strings l.bytes) l.chains l.s)
+    (rest (string_bad l.tables.strings.now l.tables.bytes.now) (pairs l.tables.strings.now) l.s
+    ≡ broken (string_bad l.tables.strings.now l.tables.bytes.now) (pairs l.tables.strings.now))
+    × (l.s < 1024 → Chained (hash_at l.tables.strings.now l.tables.bytes.now) l.chains l.s)
