@@ -1,9 +1,12 @@
 -- Laws of the whole text: table after table, and the answer.
-use Rattle.std.proofs.Common.{◌≡◌, refl, sym, ap, ◌∙◌, true, false, List, ℕ, ◌≤◌, length, take, drop}
+use Rattle.std.proofs.Common.{◌≡◌, refl, sym, ap, ◌∙◌, true, false, List, ℕ, ◌≤◌, length, take, drop, Result, Ok, Err}
 use lib.Seq.{length-take-le}
 use Rattle.listing.specs.declared.read.Sizes.{Sizes}
+use Rattle.listing.specs.declared.read.UnreadLine.{UnreadLine}
+use Rattle.listing.specs.declared.read.Lent.{Lent}
 use Rattle.listing.specs.Lines.{lines_of}
-use Rattle.listing.specs.Text.{Tables, Rooms, Outcome, input, Block, got, stop, after, table_of, string_table, ended, read_of, Begin, Past}
+use Rattle.listing.specs.Text.{Tables, Rooms, Outcome, tables, input, Block, got, stop, after, table_of, string_table, ended, read_of}
+use Rattle.listing.specs.Text.{reading_of, words, Holds, Stays, SameSlices, Begin, Past}
 
 -- what `read_of` does after each table, by what was read before
 module _ (r : Rooms) where
@@ -39,6 +42,36 @@ onto f e q = e ∙ ap (λ (z : _). after z f) q
 pub off : {A : Type 0} {o : Outcome} {b : Block A} (f : A → List (List ℕ) → ℕ → Outcome) {n : ℕ} → o ≡ after b f → b ≡ stop n → o ≡ input n
 off f e q = e ∙ ap (λ (z : _). after z f) q
 
+-- what `read_of` is after each table, where those before it could be read
+module _ (r : Rooms) (text : List ℕ) {x : List ℕ × List ℕ} {l1 : List (List ℕ)} {n1 : ℕ}
+    (q1 : string_table r.strings r.bytes (lines_of text) 1 ≡ got x l1 n1) where
+  pub read1 : read_of r text ≡ then1 r x l1 n1
+  read1 = onto (then1 r) (first r text) q1
+
+  module _ {a : List ℕ} {l3 : List (List ℕ)} {n3 : ℕ} (q3 : table_of 2 280 r.symbols false l1 n1 ≡ got a l3 n3) where
+    pub read3 : read_of r text ≡ then3 r x a l3 n3
+    read3 = onto (then3 r x) read1 q3
+
+    module _ {b : List ℕ} {l4 : List (List ℕ)} {n4 : ℕ} (q4 : table_of 1 140 r.references false l3 n3 ≡ got b l4 n4) where
+      pub read4 : read_of r text ≡ then4 r x a b l4 n4
+      read4 = onto (then4 r x a) read3 q4
+
+      module _ {c : List ℕ} {l5 : List (List ℕ)} {n5 : ℕ} (q5 : table_of 2 280 r.functions false l4 n4 ≡ got c l5 n5) where
+        pub read5 : read_of r text ≡ then5 r x a b c l5 n5
+        read5 = onto (then5 r x a b) read4 q5
+
+        module _ {d : List ℕ} {l6 : List (List ℕ)} {n6 : ℕ} (q6 : table_of 1 140 r.members false l5 n5 ≡ got d l6 n6) where
+          pub read6 : read_of r text ≡ then6 r x a b c d l6 n6
+          read6 = onto (then6 r x a b c) read5 q6
+
+          pub read7 : {e : List ℕ} {l7 : List (List ℕ)} {n7 : ℕ} → table_of 8 1120 r.records true l6 n6 ≡ got e l7 n7 → read_of r text ≡ then7 r x a b c d e l7 n7
+          read7 q7 = onto (then7 r x a b c d) read6 q7
+
+-- where a line can't be read the answer is its number, and the tables are free
+pub refused : {o : Outcome} {l l' : Lent} {y : Result Sizes UnreadLine} (u : UnreadLine) → y ≡ Err u → o ≡ input u.line → SameSlices l l'
+    → record { answer : y ≡ reading_of o; tables : Holds o (words l'); rest : Stays o (words l) (words l'); same : SameSlices l l' }
+refused u h e s = record { answer = rw (h, e) refl; tables = rw e tt; rest = rw e tt; same = s }
+
 front : (n : ℕ) (l : List ℕ) → n ≤ length l → take (length (take n l)) l ≡ take n l
 front n l h = ap (λ (k : ℕ). take k l) (length-take-le n l h)
 
@@ -50,14 +83,20 @@ pub record Stands (n : ℕ) (l l' : List ℕ) : Type 0 where
   pub inside : n ≤ length l'
   pub past : drop n l' ≡ drop n l
 
-pub stands : (n : ℕ) (l l' : List ℕ) → n ≤ length l' → drop n l' ≡ drop n l → Stands n l l'
-stands n l l' h e = record { inside = h; past = e }
+pub stands : {n : ℕ} {l l' : List ℕ} {Q : Type 0} → (n ≤ length l') × Q × (drop n l' ≡ drop n l) → Stands n l l'
+stands h = record { inside = h.0; past = h.2 }
 
-module _ (s : Sizes) (t₀ t' : Tables) (one : Stands s.strings t₀.strings t'.strings) (two : Stands s.bytes t₀.bytes t'.bytes)
-    (three : Stands s.symbols t₀.symbols t'.symbols) (four : Stands s.references t₀.references t'.references)
-    (five : Stands s.functions t₀.functions t'.functions) (six : Stands s.members t₀.members t'.members)
-    (seven : Stands s.records t₀.records t'.records) where
-  abbrev pub given : Tables
+module _ (s : Sizes) (l l' : Lent) (one : Stands s.strings l.strings.now l'.strings.now) (two : Stands s.bytes l.bytes.now l'.bytes.now)
+    (three : Stands s.symbols l.symbols.now l'.symbols.now) (four : Stands s.references l.references.now l'.references.now)
+    (five : Stands s.functions l.functions.now l'.functions.now) (six : Stands s.members l.members.now l'.members.now)
+    (seven : Stands s.records l.records.now l'.records.now) where
+  abbrev t₀ : Tables
+  t₀ = words l
+
+  abbrev t' : Tables
+  t' = words l'
+
+  abbrev given : Tables
   given = record {
     strings = take s.strings t'.strings;
     bytes = take s.bytes t'.bytes;
@@ -79,7 +118,7 @@ module _ (s : Sizes) (t₀ t' : Tables) (one : Stands s.strings t₀.strings t'.
     records = length given.records;
   }
 
-  pub counts : s ≡ lengths
+  counts : s ≡ lengths
   counts =
       let a : s.strings ≡ length given.strings = sym (length-take-le s.strings t'.strings one.inside) in
       let b : s.bytes ≡ length given.bytes = sym (length-take-le s.bytes t'.bytes two.inside) in
@@ -99,7 +138,7 @@ module _ (s : Sizes) (t₀ t' : Tables) (one : Stands s.strings t₀.strings t'.
       } in
       let same : fields ≡ lengths = cc in same
 
-  pub begin : Begin given t'
+  begin : Begin given t'
   begin = record {
     strings = front s.strings t'.strings one.inside;
     bytes = front s.bytes t'.bytes two.inside;
@@ -110,7 +149,7 @@ module _ (s : Sizes) (t₀ t' : Tables) (one : Stands s.strings t₀.strings t'.
     records = front s.records t'.records seven.inside;
   }
 
-  pub past : Past given t₀ t'
+  past : Past given t₀ t'
   past = record {
     strings = behind s.strings t₀.strings t'.strings one.inside one.past;
     bytes = behind s.bytes t₀.bytes t'.bytes two.inside two.past;
@@ -120,3 +159,8 @@ module _ (s : Sizes) (t₀ t' : Tables) (one : Stands s.strings t₀.strings t'.
     members = behind s.members t₀.members t'.members six.inside six.past;
     records = behind s.records t₀.records t'.records seven.inside seven.past;
   }
+
+  -- where every table could be read the answer is their sizes, and nothing past them is changed
+  pub accepted : {o : Outcome} → o ≡ tables given → SameSlices l l'
+      → record { answer : Ok s ≡ reading_of o; tables : Holds o t'; rest : Stays o t₀ t'; same : SameSlices l l' }
+  accepted e same = record { answer = ap Ok counts ∙ ap reading_of (sym e); tables = rw e begin; rest = rw e past; same = same }

@@ -99,7 +99,7 @@ module _ (room1 room2 n used held : ℕ) (strings bytes : List ℕ) (ls : List (
         ∙ ap (λ (t : Bool). cond t (stop n) (before_text n room2 held (string_of l) (λ h. strings_of room1 room2 (n + 1) (used + 2) h rest)))
         (limits_none 280 used room1 (used + 2) h k)
 
-    -- a line that `string_entry` refused
+    -- a line that `add` refused
     pub text_refused : (strings' bytes' : List ℕ) (r : Option ℕ) → used < 280 → Entered l strings used bytes held strings' bytes' r → r ≡ None
         → length strings ≡ room1 → length bytes ≡ room2 → W ≡ stop n
     text_refused strings' bytes' r h x u y z = why (ltb room1 (used + 2)) refl
@@ -119,7 +119,7 @@ module _ (room1 room2 n used held : ℕ) (strings bytes : List ℕ) (ls : List (
             let f = ltb-false room1 (used + 2) k in
             closed (within h f ∙ no_room room2 held n (string_of l) (λ i. strings_of room1 room2 (n + 1) (used + 2) i rest) (full f))
 
-    -- a line that `string_entry` stored
+    -- a line that `add` stored
     pub text_further : (strings' bytes' : List ℕ) (k : ℕ) (r : Option ℕ) → used < 280 → held ≤ room2 → Entered l strings used bytes held strings' bytes' r → r ≡ Some k
         → length strings ≡ room1 → length bytes ≡ room2 → length bytes' ≡ length bytes
         → (onward_text (take (used + 2) strings') (take k bytes') (strings_of room1 room2 (n + 1) (used + 2) k rest) ≡ W)
@@ -175,3 +175,12 @@ module _ (room1 room2 n used held : ℕ) (strings bytes : List ℕ) (ls : List (
             ap (drop (used + 2)) entered.6
             ∙ drop-set-lt (used + 2) (set strings used held) (used + 1) (k - held) (omega arith)
             ∙ drop-set-lt (used + 2) strings used held (omega arith)
+
+-- what is said of the buffers that were lent is said of those that come back
+pub given_back : {b : Block (List ℕ × List ℕ)} {final final' : List ℕ} {ls : List (List ℕ)} {n used held : ℕ} (strings bytes strings' bytes' : List ℕ)
+    → final ≡ strings' → final' ≡ bytes'
+    → (used ≤ length strings') × (held ≤ length bytes') × (b ≡ got (take used strings', take held bytes') ls n)
+    × (drop used strings' ≡ drop used strings) × (drop held bytes' ≡ drop held bytes)
+    → (used ≤ length final) × (held ≤ length final') × (b ≡ got (take used final, take held final') ls n)
+    × (drop used final ≡ drop used strings) × (drop held final' ≡ drop held bytes)
+given_back strings bytes strings' bytes' e f h = rw (e, f) h

@@ -39,7 +39,7 @@ fn begin(w: &mut Writer, function: u64, section: &[u8], place: u32)
     w.put(b' ');
     w.text(section);
     w.put(b' ');
-    w.number(place as u64);
+    w.number(u64::from(place));
     w.put(b' ');
 }
 
@@ -335,9 +335,9 @@ fn error_row(w: &mut Writer, place: usize, kind: u32, start: u32, end: u32)
     w.put(b' ');
     w.text(ErrorKind::from(kind).name());
     w.put(b' ');
-    w.number(start as u64);
+    w.number(u64::from(start));
     w.put(b' ');
-    w.number(end as u64);
+    w.number(u64::from(end));
     w.put(b'\n');
 }
 
@@ -388,7 +388,7 @@ pub fn refusal(w: &mut Writer, which: u32, place: usize)
     ensures { w.new ≡ after (refusal_text which place) w.old }
 {
     w.text(b"refusal place\n");
-    w.number(which as u64);
+    w.number(u64::from(which));
     w.put(b' ');
     w.number(place as u64);
     w.put(b'\n');

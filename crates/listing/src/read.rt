@@ -3,7 +3,7 @@ ghost use Rattle.std.specs.Prelude.{◌≡◌, ℕ, Bool, true, false, ◌+◌, 
 ghost use Rattle.listing.specs.Lines.{lines_of, Took, Over};
 ghost use Rattle.listing.specs.Read.{decimal_of, nibble_of, pair_of, gap, Stored, Kept};
 ghost use Rattle.listing.specs.Text.{Tables, rows_of, table_of, strings_of, string_table, ended, read_of, rooms_of, reading_of, words, Holds, Stays, SameSlices};
-ghost use Rattle.listing.specs.Places.{Listed, Texted, Entered, outcome_of};
+ghost use Rattle.listing.specs.Places.{Listed, Texted, Entered, SameBuffers, held_after, outcome_of};
 
 use crate::lines::{Lines, run};
 
@@ -137,29 +137,41 @@ fn hexadecimal(line: &[u8], out: &mut [u8]) -> Option<usize>
     Some(line.len() >> 1)
 }
 
-// One string: its offset and length in table 1, its bytes in table 2; how many bytes are held then.
-fn string_entry(
-    line: &[u8],
-    strings: &mut [u32],
+// Table 1 as far as it was read: its words, and the bytes of its strings.
+#[derive(Drop)]
+struct Strings<'a> {
+    words: &'a mut [u32],
     used: usize,
-    bytes: &mut [u8],
+    bytes: &'a mut [u8],
     held: usize,
-) -> Option<usize>
-    requires words { used ≤ length strings.old }
-    requires bytes { held ≤ length bytes.old }
-    ensures { Entered line.now strings.old used bytes.old held strings.new bytes.new result }
-{
-    if strings.len() - used < 2 {
-        return None;
+}
+
+impl Strings<'_> {
+    // One string: its offset and length in table 1, its bytes in table 2.
+    fn add(&mut self, line: &[u8]) -> Option<()>
+        requires words { self.old.used ≤ length self.old.words.now }
+        requires bytes { self.old.held ≤ length self.old.bytes.now }
+        ensures entered { Entered line.now self.old.words.now self.old.used self.old.bytes.now self.old.held
+            self.new.words.now self.new.bytes.now (held_after self.new.held result) }
+        ensures used { IfSome result (λ _. self.new.used ≡ self.old.used + 2) }
+        ensures same { SameBuffers self.old self.new }
+    {
+        let used = self.used;
+        let held = self.held;
+        if self.words.len() - used < 2 {
+            return None;
+        }
+        let count = hexadecimal(line, &mut self.bytes[held..])?;
+        let end = held + count;
+        if BYTES < end {
+            return None;
+        }
+        self.words[used] = held as u32;
+        self.words[used + 1] = count as u32;
+        self.used = used + 2;
+        self.held = end;
+        Some(())
     }
-    let count = hexadecimal(line, &mut bytes[held..])?;
-    let end = held + count;
-    if BYTES < end {
-        return None;
-    }
-    strings[used] = held as u32;
-    strings[used + 1] = count as u32;
-    Some(end)
 }
 
 // Table 1's lines, of at most 140 strings.
@@ -171,18 +183,24 @@ fn string_lines(
     ensures { Texted (strings_of (length strings.old) (length bytes.old) lines.old.number 0 0 (lines_of lines.old.rest.now))
         strings.old bytes.old strings.new bytes.new lines.new.rest.now lines.new.number result }
 {
-    let mut used: usize = 0;
-    let mut held: usize = 0;
+    let mut table = Strings {
+        words: &mut *strings,
+        used: 0,
+        bytes: &mut *bytes,
+        held: 0,
+    };
     while let Some(line) = lines.next_line() {
         let unread = UnreadLine { line: line.number };
         if line.bytes.is_empty() {
-            return Ok(Texts { used, held });
+            return Ok(Texts {
+                used: table.used,
+                held: table.held,
+            });
         }
-        if STRINGS <= used {
+        if STRINGS <= table.used {
             return Err(unread);
         }
-        held = string_entry(line.bytes, strings, used, bytes, held).ok_or(unread)?;
-        used += 2;
+        table.add(line.bytes).ok_or(unread)?;
     }
     Err(UnreadLine { line: lines.number })
 }

@@ -1,7 +1,7 @@
 // The patterns of a Match's Cases.
 ghost use Rattle.pattern.specs.Promises.{TestsPattern, TestsCase, Tests};
 
-use crate::clean::{clean_stack, clean_up};
+use crate::clean::CleanStack;
 use crate::depth::visit_pattern_depth;
 use context::Context;
 use context::label::next_label;
@@ -15,12 +15,12 @@ use tables::ast::{next, p};
 fn test(tree: &Tree, cx: &mut Context, pattern: usize, block_label: LabelId)
     ensures { TestsPattern tree.now.records.now tree.now.notes.now cx.old cx.new pattern block_label.0 }
 {
-    let stack = clean_stack(cx);
+    let stack = CleanStack::new(cx);
     cx.push_code(OpCode::Copy(1));
     let taken = visit_pattern_depth(tree, cx, pattern, 0, stack);
     cx.push_code(OpCode::Pop);
     cx.push_code(OpCode::Jump(block_label));
-    clean_up(cx, taken)
+    taken.clean_up(cx)
 }
 
 // The patterns of one Case.

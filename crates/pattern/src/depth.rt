@@ -1,7 +1,7 @@
 // visit_pattern_depth: a cycle of three. Each answers the clean-up labels that are taken then.
 ghost use Rattle.pattern.specs.Promises.{VisitsPattern, VisitsNested};
 
-use crate::clean::{CleanStack, clean_stack_label, deepened};
+use crate::clean::CleanStack;
 use crate::test::{ident, lit, push_table_test};
 use context::Context;
 use context::tree::Tree;
@@ -25,7 +25,7 @@ pub fn visit_pattern_depth(
     if pattern == 0 {
         return stack;
     }
-    let next_pattern_label = clean_stack_label(stack, depth);
+    let next_pattern_label = stack.label(depth);
     match kind(tree.records, pattern) {
         Kind::TablePattern => table(tree, cx, pattern, depth, stack),
         Kind::ListPattern => list(tree, cx, pattern, depth, stack),
@@ -47,9 +47,9 @@ fn table(tree: &Tree, cx: &mut Context, pattern: usize, depth: u32, stack: Clean
 {
     let inside = depth.saturating_add(1);
     let mut key = first(tree.records, pattern);
-    let mut taken = deepened(cx, stack, inside);
+    let mut taken = stack.deepened(cx, inside);
     let pairs = capped(width(tree.records, key) / 2);
-    let clean_stack_label = clean_stack_label(taken, inside);
+    let clean_stack_label = taken.label(inside);
     push_table_test(tree, cx, pattern, pairs, clean_stack_label);
     while key != 0 {
         let value = next(tree.records, key);
@@ -68,9 +68,9 @@ fn list(tree: &Tree, cx: &mut Context, pattern: usize, depth: u32, stack: CleanS
 {
     let inside = depth.saturating_add(1);
     let mut item = first(tree.records, pattern);
-    let mut taken = deepened(cx, stack, inside);
+    let mut taken = stack.deepened(cx, inside);
     let items = capped(width(tree.records, item));
-    let clean_stack_label = clean_stack_label(taken, inside);
+    let clean_stack_label = taken.label(inside);
     push_table_test(tree, cx, pattern, items, clean_stack_label);
     let mut i: u32 = 0;
     while item != 0 {

@@ -1,5 +1,5 @@
 -- The measure of the visitors: the records left, and a rank at the same record. Assumes nothing.
-use mathlib.Core.Path.{◌≡◌, refl, sym, ap, ◌∙◌, subst⁻¹}
+use mathlib.Core.Path.{◌≡◌, refl, ap, ◌∙◌, subst⁻¹}
 use mathlib.Core.Bool.{Bool, true, false, cond, ◌&&◌}
 use mathlib.Core.Logic.{◌⊎◌, inl, inr, ⊎_elim}
 use mathlib.Core.List.{List}
@@ -84,7 +84,7 @@ level_none : (n r k : ℕ) → r ≡ 0 → level_or n r k ≡ 0
 unfolding level_or
 level_none n r k e = on_true (eqb r 0) 0 (level n r k) (eq-eqb r 0 e)
 
-level_some : (n r k : ℕ) → (r ≡ 0 → ⊥) → level_or n r k ≡ level n r k
+pub level_some : (n r k : ℕ) → (r ≡ 0 → ⊥) → level_or n r k ≡ level n r k
 unfolding level_or
 level_some n r k ne = on_false (eqb r 0) 0 (level n r k) (ne_eqb r 0 ne)
 
@@ -97,28 +97,22 @@ falls_to n r x j k t e lt l =
 pub falls_child : (n r x j k t : ℕ) → level n r (suc k) ≡ t → j < 16 → Linked n r x → (x ≡ 0 → ⊥) → level n x j < t
 falls_child n r x j k t e lt l ne = omega (arith, falls_to n r x j k t e lt l, level_some n x j ne)
 
--- at the same record the rank falls
-pub falls_rank : (n r j k t : ℕ) → level_or n r k ≡ t → (r ≡ 0 → ⊥) → j < k → level n r j < t
-falls_rank n r j k t e ne lt = omega (arith, level_some n r k ne)
+-- the measures of a record's first child, of a sibling's next and of the one n further, as the goals of calls need them
+pub first_falls : (recs : List ℕ) (r j : ℕ) → j < 16 → level_or (size recs) (first recs r) j ≤ (size recs - r) * 16
+first_falls recs r j lt =
+    let t = falls_to (size recs) r (first recs r) j 0 (level (size recs) r 1) refl lt (first_linked recs r) in omega (arith, t)
 
-pub falls_some : (n r j k t : ℕ) → level_or n r k ≡ t → (r ≡ 0 → ⊥) → j < k → level_or n r j < t
-falls_some n r j k t e ne lt = omega (arith, level_some n r k ne, level_some n r j ne)
+pub next_falls : (recs : List ℕ) (a j : ℕ) → j < 16 → level_or (size recs) (next recs a) j ≤ level_or (size recs) a 0
+next_falls recs a j lt =
+    ⊎_elim (λ z. omega (arith, level_none (size recs) (next recs a) j (ap (next recs) z ∙ next_zero recs)))
+    (λ ne. let t = falls_to (size recs) a (next recs a) j 0 (level (size recs) a 1) refl lt (next_linked recs a) in omega (arith, t, level_some (size recs) a 0 ne))
+    (zero_or a)
 
--- a child of a record that is there
-pub falls_below : (n r x j k t : ℕ) → level_or n r (suc k) ≡ t → (r ≡ 0 → ⊥) → j < 16 → Linked n r x → level_or n x j < t
-falls_below n r x j k t e ne lt l = falls_to n r x j k t (sym (level_some n r (suc k) ne) ∙ e) lt l
+level_rises : (n r j k : ℕ) → j ≤ k → level_or n r j ≤ level_or n r k
+level_rises n r j k le =
+    ⊎_elim (λ z. omega (arith, level_none n r j z)) (λ ne. omega (arith, le, level_some n r j ne, level_some n r k ne)) (zero_or r)
 
--- along the siblings from a on
-pub falls_along : (n a c j k t : ℕ) → level_or n a k ≡ t → j < k → Along a c → (c ≡ 0 → ⊥) → (a ≡ 0 → ⊥) → level_or n c j < t
-falls_along n a c j k t e lt l ne na =
-    ⊎_elim (λ z. absurd (ne z)) (λ w. omega (arith, w, level_some n c j ne, level_some n a k na)) l
-
--- a record after r, wherever
-pub falls_past : (n r c t : ℕ) → level n r 9 ≡ t → r < c → level_or n c 8 < t
-falls_past n r c t e lt = omega (arith, level_some n c 8 (λ z. omega (arith, z, lt)))
-
--- a loop along the siblings ends
-pub falls_next : (recs : List ℕ) (c x : ℕ) → (c ≡ 0 → ⊥) → x ≡ next recs c → level_or (size recs) x 12 < level_or (size recs) c 12
-falls_next recs c x ne e =
-    let l : Linked (size recs) c x = subst⁻¹ (λ (z : ℕ). Linked (size recs) c z) e (next_linked recs c) in
-    falls_to (size recs) c x 12 11 (level_or (size recs) c 12) (sym (level_some (size recs) c 12 ne)) (omega arith) l
+pub nth_falls : (recs : List ℕ) (n a j : ℕ) → j < 16 → level_or (size recs) (nth recs n a) j ≤ level_or (size recs) a 15
+nth_falls recs zero a j lt = level_rises (size recs) a j 15 (omega (arith, lt))
+nth_falls recs (suc n) a j lt =
+    omega (arith, nth_falls recs n (next recs a) j lt, next_falls recs a 15 (omega arith), level_rises (size recs) a 0 15 (omega arith))

@@ -1,5 +1,5 @@
 // The visitors: visit_expr and all that it reaches, one cycle of calls with the records left falling at each call. Record 0 stands for an absent one.
-#![tactic(auto)]
+#![tactic(auto, using(crate::proofs::FallLaws::first_falls, crate::proofs::FallLaws::next_falls, crate::proofs::FallLaws::nth_falls, crate::proofs::FallLaws::level_some))]
 
 ghost use Rattle.rules.specs.Step.{Expr, Callee, Target, Before};
 ghost use Rattle.rules.specs.Arms.{block_steps, fn_steps, stream_steps, table_steps, list_steps, binary_steps, short_steps, member_steps, call_steps, if_steps, loop_steps};

@@ -11,7 +11,7 @@ use lib.Dec.{lit<, eqb}
 use Rattle.tables.specs.Record.{size, word, words}
 use Rattle.tables.specs.Forest.{first, forest, own_tree, Nodes, children}
 use Rattle.context.specs.Rep.{lent}
-use Rattle.visit.proofs.FallLaws.{falls_along, falls_to, child1, child2, falls_next, linked_past, falls_rank, falls_some, falls_below, linked_nth, falls_past, falls_child}
+use Rattle.visit.proofs.FallLaws.{falls_to, child1, falls_child}
 use Rattle.visit.proofs.LoopLaws.{all_again, all_none, all_end, blocking_start, blocking_last, blocking_again, blocking_still, bodying_start}
 use Rattle.visit.proofs.LoopLaws.{bodying_again, bodying_end, downing_start, downing_again, downing_end, downing_never, unpacking_start, unpacking_again, unpacking_end}
 use Rattle.rules.specs.Marker.{Pop, Jump, Return, LoadLocals, Call, Copy, Swap, CheckEffect}
@@ -103,13 +103,6 @@ use Rattle.visit.proofs.+visitors.Goals as goal
 pub all-returns-then-at-eq0 : goal.all-returns-then-at-eq0
 all-returns-then-at-eq0 t c =
     all_none (lent c.args.tree.now) c.args.item c.args.n c.loop.invariant c.if-at-eq0.true
-
-pub all-expr-requires : goal.all-expr-requires
-all-expr-requires t c = (
-  falls_along (size c.args.tree.now.records.now) c.args.item _ 12 13 t c.decreases (lit< tt) c.loop.invariant.along c.if-at-eq0.false (λ e. c.if-at-eq0.false
-      (c.loop.invariant.none e)),
-  tt,
-)
 
 pub all-loop-preserved : goal.all-loop-preserved
 all-loop-preserved t c =
@@ -203,17 +196,6 @@ arm-returns-in_default t c =
     (unlike _ _ kind.AssignOp c.kind.ensures c.in_default.not-AssignOp tt) (unlike _ _ kind.AssignUnpack c.kind.ensures c.in_default.not-AssignUnpack tt)
     (unlike _ _ kind.AssignMulti c.kind.ensures c.in_default.not-AssignMulti tt) A) c.rest.ensures
 
-pub assign-expr-requires : goal.assign-expr-requires
-assign-expr-requires t c = (
-  falls_to (size c.args.tree.now.records.now) c.args.r _ 12 7 t c.decreases (lit< tt)
-      (child2 c.args.tree.now.records.now c.next-right.ensures (child1 c.args.tree.now.records.now c.first-left.ensures)),
-  tt,
-)
-
-pub assign-target-requires : goal.assign-target-requires
-assign-target-requires t c =
-    (falls_to (size c.args.tree.now.records.now) c.args.r _ 8 7 t c.decreases (lit< tt) (child1 c.args.tree.now.records.now c.first-left.ensures), tt)
-
 pub assign-returns : goal.assign-returns
 unfolding does doing exec
 assign-returns t c =
@@ -239,17 +221,6 @@ neither_short op.Le a b = refl
 neither_short op.Gt a b = refl
 neither_short op.Ge a b = refl
 neither_short op.Is a b = refl
-
-pub binary-expr-requires : goal.binary-expr-requires
-binary-expr-requires t c =
-    (falls_to (size c.args.tree.now.records.now) c.args.r _ 12 7 t c.decreases (lit< tt) (child1 c.args.tree.now.records.now c.first-left.ensures), tt)
-
-pub binary-expr-requires-in_default : goal.binary-expr-requires-in_default
-binary-expr-requires-in_default t c = (
-  falls_to (size c.args.tree.now.records.now) c.args.r _ 12 7 t c.decreases (lit< tt)
-      (child2 c.args.tree.now.records.now c.next-right.ensures (child1 c.args.tree.now.records.now c.first-left.ensures)),
-  tt,
-)
 
 pub binary-returns-in-And : goal.binary-returns-in-And
 binary-returns-in-And t c =
@@ -291,19 +262,11 @@ pub block-loop-cx-init : goal.block-loop-cx-init
 block-loop-cx-init t c =
     blocking_start (lent c.args.tree.now) c.args.r _ (child1 c.args.tree.now.records.now c.first-child.ensures) c.if-child-eq0.false
 
-pub block-expr-requires : goal.block-expr-requires
-block-expr-requires t c =
-    (falls_to (size c.args.tree.now.records.now) c.args.r _ 12 7 t c.decreases (lit< tt) c.loop-cx.invariant.link, tt)
-
 pub block-returns-then-child-eq0-2 : goal.block-returns-then-child-eq0-2
 block-returns-then-child-eq0-2 t c =
     resim (λ v z A. block_left (lent c.args.tree.now) v c.args.r c.first-child.ensures c.if-child-eq0.false A)
     (blocking_last (lent c.args.tree.now) c.args.r c.loop-cx.invariant (sym c.goes_on.ensures ∙ c.loop-cx-test.true) c.expr.ensures
     c.keep_error.ensures c.next-child.ensures c.if-child-eq0-2.true)
-
-pub block-loop-cx-smaller : goal.block-loop-cx-smaller
-block-loop-cx-smaller t c =
-    falls_next c.args.tree.now.records.now _ _ c.loop-cx.invariant.some c.next-child.ensures
 
 pub block-loop-cx-preserved : goal.block-loop-cx-preserved
 block-loop-cx-preserved t c =
@@ -323,17 +286,6 @@ pub bodies-loop-at-init : goal.bodies-loop-at-init
 bodies-loop-at-init t c =
     bodying_start (lent c.args.tree.now) c.args.first _ _ _
 
-pub bodies-expr-requires : goal.bodies-expr-requires
-bodies-expr-requires t c = (
-  falls_along (size c.args.tree.now.records.now) c.args.first _ 12 13 t c.decreases (lit< tt) c.loop-at.invariant.along c.loop-at-test.true (λ e. c.loop-at-test.true
-      (c.loop-at.invariant.none e)),
-  tt,
-)
-
-pub bodies-loop-at-smaller : goal.bodies-loop-at-smaller
-bodies-loop-at-smaller t c =
-    falls_next c.args.tree.now.records.now _ _ c.loop-at-test.true c.next-at.ensures
-
 pub bodies-loop-at-preserved : goal.bodies-loop-at-preserved
 bodies-loop-at-preserved t c =
     bodying_again (lent c.args.tree.now) c.args.first _ _ c.loop-at.invariant c.loop-at-test.true c.next-at.ensures
@@ -351,17 +303,6 @@ bodies-returns t c =
       bodies = λ r i j p q. bodying_end (lent c.args.tree.now) c.args.first _ _ c.loop-at.invariant c.loop-at-test.false
           r i j p q;
     }
-
-pub body-expr-requires : goal.body-expr-requires
-body-expr-requires t c =
-    (falls_to (size c.args.tree.now.records.now) c.args.r _ 12 4 t c.decreases (lit< tt) (child1 c.args.tree.now.records.now c.first-params.ensures), tt)
-
-pub body-expr-requires-2 : goal.body-expr-requires-2
-body-expr-requires-2 t c = (
-  falls_to (size c.args.tree.now.records.now) c.args.r _ 12 4 t c.decreases (lit< tt)
-      (child2 c.args.tree.now.records.now c.next-block.ensures (child1 c.args.tree.now.records.now c.first-params.ensures)),
-  tt,
-)
 
 pub body-returns-then-eq : goal.body-returns-then-eq
 unfolding does doing exec
@@ -389,17 +330,6 @@ body-returns t c =
           said c.args.r Return 0 refl refl (sent _ c.push_code-2.ensures.1 c.push_code-2.ensures.2) h2;
     })
 
-pub call-called-requires : goal.call-called-requires
-call-called-requires t c =
-    (falls_to (size c.args.tree.now.records.now) c.args.r _ 13 7 t c.decreases (lit< tt) (child1 c.args.tree.now.records.now c.first-callee.ensures), tt)
-
-pub call-all-requires : goal.call-all-requires
-call-all-requires t c = (
-  falls_to (size c.args.tree.now.records.now) c.args.r _ 13 7 t c.decreases (lit< tt)
-      (child2 c.args.tree.now.records.now c.next-arguments.ensures (child1 c.args.tree.now.records.now c.first-callee.ensures)),
-  tt,
-)
-
 pub call-returns-then-handlers-eq0 : goal.call-returns-then-handlers-eq0
 call-returns-then-handlers-eq0 t c =
     record {
@@ -415,13 +345,6 @@ call-returns-then-handlers-eq0 t c =
           c.first-callee.ensures (c.arguments_len-n.ensures ∙ ap (λ (x : ℕ). arguments (own_tree (forest c.args.tree.now.records.now
           x))) (next_of c.args.tree.now.records.now c.next-arguments.ensures c.first-callee.ensures))) c.push_calling.ensures h2);
     }
-
-pub call-bodies-requires : goal.call-bodies-requires
-call-bodies-requires t c = (
-  falls_to (size c.args.tree.now.records.now) c.args.r _ 13 7 t c.decreases (lit< tt) (linked_past c.args.tree.now.records.now c.arguments_len-n.result
-      (child2 c.args.tree.now.records.now c.next-arguments.ensures (child1 c.args.tree.now.records.now c.first-callee.ensures)) c.nth-handlers.ensures),
-  tt,
-)
 
 pub call-returns : goal.call-returns
 call-returns t c =
@@ -449,24 +372,10 @@ pub called-returns-then-callee-eq0 : goal.called-returns-then-callee-eq0
 called-returns-then-callee-eq0 t c =
     resim (λ v z A. absent (lent c.args.tree.now) v Callee c.if-callee-eq0.true A) stay
 
-pub called-expr-requires : goal.called-expr-requires
-called-expr-requires t c =
-    (falls_some (size c.args.tree.now.records.now) c.args.callee 12 13 t c.decreases c.if-callee-eq0.false (lit< tt), tt)
-
 pub called-returns-then-not-is_method : goal.called-returns-then-not-is_method
 called-returns-then-not-is_method t c =
     resim (λ v z A. callee_plain (lent c.args.tree.now) v c.args.callee c.if-callee-eq0.false (sym c.is_method.ensures ∙
     not-true _ (ap not c.if-not-is_method.true)) A) c.expr.ensures
-
-pub called-expr-requires-2 : goal.called-expr-requires-2
-called-expr-requires-2 t c = (
-  falls_below (size c.args.tree.now.records.now) c.args.callee _ 12 12 t c.decreases c.if-callee-eq0.false (lit< tt) (child1 c.args.tree.now.records.now c.first-table.ensures),
-  tt,
-)
-
-pub called-prop-requires : goal.called-prop-requires
-called-prop-requires t c =
-    (falls_rank (size c.args.tree.now.records.now) c.args.callee 6 13 t c.decreases c.if-callee-eq0.false (lit< tt), tt)
 
 pub called-returns-then-is_unlabelled : goal.called-returns-then-is_unlabelled
 called-returns-then-is_unlabelled t c =
@@ -482,10 +391,6 @@ called-returns-then-is_unlabelled t c =
           given (method_bare (lent c.args.tree.now) v c.args.callee (t ∙ c.if-is_unlabelled.true) A) (said c.args.callee
           Swap 2 refl refl (sent _ c.push_code-then-is_unlabelled.ensures.1 c.push_code-then-is_unlabelled.ensures.2) g);
     })
-
-pub called-prop-requires-2 : goal.called-prop-requires-2
-called-prop-requires-2 t c =
-    (falls_rank (size c.args.tree.now.records.now) c.args.callee 6 13 t c.decreases c.if-callee-eq0.false (lit< tt), tt)
 
 pub called-returns : goal.called-returns
 called-returns t c =
@@ -510,17 +415,6 @@ pub cases-returns-then-value-eq0 : goal.cases-returns-then-value-eq0
 cases-returns-then-value-eq0 t c =
     resim (λ v z A. match_none (lent c.args.tree.now) v c.args.r (sym c.first-value.ensures ∙ c.if-value-eq0.true) A) stay
 
-pub cases-expr-requires : goal.cases-expr-requires
-cases-expr-requires t c =
-    (falls_to (size c.args.tree.now.records.now) c.args.r _ 12 7 t c.decreases (lit< tt) (child1 c.args.tree.now.records.now c.first-value.ensures), tt)
-
-pub cases-bodies-requires : goal.cases-bodies-requires
-cases-bodies-requires t c = (
-  falls_to (size c.args.tree.now.records.now) c.args.r _ 13 7 t c.decreases (lit< tt)
-      (child2 c.args.tree.now.records.now c.next-cases.ensures (child1 c.args.tree.now.records.now c.first-value.ensures)),
-  tt,
-)
-
 pub cases-returns : goal.cases-returns
 cases-returns t c =
     record {
@@ -540,20 +434,6 @@ cases-returns t c =
           e. c.if-value-eq0.false (c.first-value.ensures ∙ e)) A) (said c.args.r Pop 0 refl refl (sent _ c.push_code-3.ensures.1 c.push_code-3.ensures.2) h9);
     }
 
-pub catch-expr-requires : goal.catch-expr-requires
-catch-expr-requires t c = (
-  falls_to (size c.args.tree.now.records.now) c.args.handler _ 12 7 t c.decreases (lit< tt) (child2 c.args.tree.now.records.now c.next-params.ensures (child1
-      c.args.tree.now.records.now c.first-effect.ensures)),
-  tt,
-)
-
-pub catch-expr-requires-2 : goal.catch-expr-requires-2
-catch-expr-requires-2 t c = (
-  falls_to (size c.args.tree.now.records.now) c.args.handler _ 12 7 t c.decreases (lit< tt) (child2 c.args.tree.now.records.now c.next-body.ensures
-      (child2 c.args.tree.now.records.now c.next-params.ensures (child1 c.args.tree.now.records.now c.first-effect.ensures))),
-  tt,
-)
-
 pub catch-returns : goal.catch-returns
 unfolding does doing exec
 catch-returns t c =
@@ -569,25 +449,6 @@ catch-returns t c =
             c.expr-2.ensures h3;
       };
     }
-
-pub cond-expr-requires : goal.cond-expr-requires
-cond-expr-requires t c =
-    (falls_to (size c.args.tree.now.records.now) c.args.r _ 12 7 t c.decreases (lit< tt) (child1 c.args.tree.now.records.now c.first-test.ensures), tt)
-
-pub cond-expr-requires-2 : goal.cond-expr-requires-2
-cond-expr-requires-2 t c = (
-  falls_to (size c.args.tree.now.records.now) c.args.r _ 12 7 t c.decreases (lit< tt)
-      (child2 c.args.tree.now.records.now c.next-consequent.ensures (child1 c.args.tree.now.records.now c.first-test.ensures)),
-  tt,
-)
-
-pub cond-expr-requires-then-flag : goal.cond-expr-requires-then-flag
-cond-expr-requires-then-flag t c = (
-  falls_to (size c.args.tree.now.records.now) c.args.r _ 12 7 t c.decreases (lit< tt)
-      (child2 c.args.tree.now.records.now c.next-alternate.ensures (child2 c.args.tree.now.records.now
-      c.next-consequent.ensures (child1 c.args.tree.now.records.now c.first-test.ensures))),
-  tt,
-)
 
 pub cond-returns-then-flag : goal.cond-returns-then-flag
 unfolding does doing exec
@@ -629,20 +490,6 @@ cond-returns t c =
           placed c.args.r _ refl m c.push_label-2.ensures h8;
     })
 
-pub each-expr-requires : goal.each-expr-requires
-each-expr-requires t c = (
-  falls_to (size c.args.tree.now.records.now) c.args.r _ 12 7 t c.decreases (lit< tt)
-      (linked_nth c.args.tree.now.records.now c.args.r c.p-n.result c.first-left.ensures c.nth-right.ensures),
-  tt,
-)
-
-pub each-expr-requires-2 : goal.each-expr-requires-2
-each-expr-requires-2 t c = (
-  falls_to (size c.args.tree.now.records.now) c.args.r _ 12 7 t c.decreases (lit< tt) (child2 c.args.tree.now.records.now c.next-body.ensures (linked_nth
-      c.args.tree.now.records.now c.args.r c.p-n.result c.first-left.ensures c.nth-right.ensures)),
-  tt,
-)
-
 pub each-returns : goal.each-returns
 each-returns t c =
     record {
@@ -670,56 +517,6 @@ each-returns t c =
 pub expr-returns-then-r-eq0 : goal.expr-returns-then-r-eq0
 expr-returns-then-r-eq0 t c =
     resim (λ v z A. absent (lent c.args.tree.now) v Expr c.if-r-eq0.true A) stay
-
-pub expr-expr-requires : goal.expr-expr-requires
-expr-expr-requires t c = (
-  falls_below (size c.args.tree.now.records.now) c.args.r _ 12 11 t c.decreases c.if-r-eq0.false (lit< tt) (child1 c.args.tree.now.records.now c.first.ensures),
-  tt,
-)
-
-pub expr-block-requires : goal.expr-block-requires
-expr-block-requires t c =
-    (falls_rank (size c.args.tree.now.records.now) c.args.r 8 12 t c.decreases c.if-r-eq0.false (lit< tt), tt)
-
-pub expr-func-requires : goal.expr-func-requires
-expr-func-requires t c =
-    (falls_rank (size c.args.tree.now.records.now) c.args.r 8 12 t c.decreases c.if-r-eq0.false (lit< tt), tt)
-
-pub expr-table-requires : goal.expr-table-requires
-expr-table-requires t c =
-    (falls_rank (size c.args.tree.now.records.now) c.args.r 8 12 t c.decreases c.if-r-eq0.false (lit< tt), tt)
-
-pub expr-list-requires : goal.expr-list-requires
-expr-list-requires t c =
-    (falls_rank (size c.args.tree.now.records.now) c.args.r 8 12 t c.decreases c.if-r-eq0.false (lit< tt), tt)
-
-pub expr-expr-requires-in-Unary : goal.expr-expr-requires-in-Unary
-expr-expr-requires-in-Unary t c = (
-  falls_below (size c.args.tree.now.records.now) c.args.r _ 12 11 t c.decreases c.if-r-eq0.false (lit< tt) (child1 c.args.tree.now.records.now c.first-in-Unary.ensures),
-  tt,
-)
-
-pub expr-binary-requires : goal.expr-binary-requires
-expr-binary-requires t c =
-    (falls_rank (size c.args.tree.now.records.now) c.args.r 8 12 t c.decreases c.if-r-eq0.false (lit< tt), tt)
-
-pub expr-expr-requires-in-TypeCheck : goal.expr-expr-requires-in-TypeCheck
-expr-expr-requires-in-TypeCheck t c = (
-  falls_below (size c.args.tree.now.records.now) c.args.r _ 12 11 t c.decreases c.if-r-eq0.false (lit< tt) (child1 c.args.tree.now.records.now c.first-in-TypeCheck.ensures),
-  tt,
-)
-
-pub expr-member-requires : goal.expr-member-requires
-expr-member-requires t c =
-    (falls_rank (size c.args.tree.now.records.now) c.args.r 8 12 t c.decreases c.if-r-eq0.false (lit< tt), tt)
-
-pub expr-call-requires : goal.expr-call-requires
-expr-call-requires t c =
-    (falls_rank (size c.args.tree.now.records.now) c.args.r 8 12 t c.decreases c.if-r-eq0.false (lit< tt), tt)
-
-pub expr-arm-requires : goal.expr-arm-requires
-expr-arm-requires t c =
-    (falls_rank (size c.args.tree.now.records.now) c.args.r 11 12 t c.decreases c.if-r-eq0.false (lit< tt), tt)
 
 pub expr-returns-in-Lit : goal.expr-returns-in-Lit
 unfolding does doing exec
@@ -855,10 +652,6 @@ fetch-returns-then-is_meta t c =
           c.args.left (word c.args.tree.now.records.now c.args.left 1 - 1) c.left_property-property.ensures c.push_get.ensures h2);
     }
 
-pub fetch-prop-requires : goal.fetch-prop-requires
-fetch-prop-requires t c =
-    (falls_rank (size c.args.tree.now.records.now) c.args.left 6 8 t c.decreases c.if-left-eq0.false (lit< tt), tt)
-
 pub fetch-returns : goal.fetch-returns
 unfolding does doing exec
 fetch-returns t c =
@@ -873,10 +666,6 @@ fetch-returns t c =
           (word c.args.tree.now.records.now c.args.left 1 - 1) c.left_property-property.ensures c.push_get-2.ensures h4);
     }
 
-pub func-expr-requires : goal.func-expr-requires
-func-expr-requires t c =
-    (falls_to (size c.args.tree.now.records.now) c.args.r _ 12 7 t c.decreases (lit< tt) (child1 c.args.tree.now.records.now c.first.ensures), tt)
-
 pub func-returns-then-not-flag : goal.func-returns-then-not-flag
 unfolding does doing exec
 func-returns-then-not-flag t c =
@@ -885,13 +674,6 @@ func-returns-then-not-flag t c =
       sim = λ z v o₀ A h.
           visited z Expr c.first.ensures c.expr.ensures h;
     })
-
-pub func-expr-requires-2 : goal.func-expr-requires-2
-func-expr-requires-2 t c = (
-  falls_to (size c.args.tree.now.records.now) c.args.r _ 12 7 t c.decreases (lit< tt)
-      (child2 c.args.tree.now.records.now c.next-function.ensures (child1 c.args.tree.now.records.now c.first-name.ensures)),
-  tt,
-)
 
 pub func-returns : goal.func-returns
 unfolding does doing exec
@@ -904,13 +686,6 @@ func-returns t c =
           nulled c.args.r c.push_null.ensures h2;
     })
 
-pub glo-expr-requires : goal.glo-expr-requires
-glo-expr-requires t c = (
-  falls_to (size c.args.tree.now.records.now) c.args.r _ 12 7 t c.decreases (lit< tt)
-      (child2 c.args.tree.now.records.now c.next-right.ensures (child1 c.args.tree.now.records.now c.first-left.ensures)),
-  tt,
-)
-
 pub glo-returns : goal.glo-returns
 unfolding does doing exec
 glo-returns t c =
@@ -920,13 +695,6 @@ glo-returns t c =
           let h2 = used z c.args.r 0 Set c.first-left.ensures c.store.ensures h1 in
           nulled c.args.r c.push_null.ensures h2;
     }
-
-pub import-all-requires : goal.import-all-requires
-import-all-requires t c = (
-  falls_to (size c.args.tree.now.records.now) c.args.r _ 13 7 t c.decreases (lit< tt) (linked_nth c.args.tree.now.records.now c.args.r c.p.result
-      c.first.ensures c.nth-items.ensures),
-  tt,
-)
 
 pub import-returns-in-Items : goal.import-returns-in-Items
 unfolding does doing exec
@@ -1003,10 +771,6 @@ inner-returns t c =
     c.if-not-is_numbered.false))
     c.begin_function-outer.ensures.outer c.begin_function-outer.ensures.context c.body.ensures c.keep_error.ensures c.end_function.ensures)
 
-pub list-all-requires : goal.list-all-requires
-list-all-requires t c =
-    (falls_to (size c.args.tree.now.records.now) c.args.r _ 13 7 t c.decreases (lit< tt) (child1 c.args.tree.now.records.now c.first-items.ensures), tt)
-
 pub list-returns : goal.list-returns
 unfolding does doing exec
 list-returns t c =
@@ -1018,10 +782,6 @@ list-returns t c =
           c.args.r))) (push_op BuildList (width (own_tree (children c.args.tree.now.records.now c.args.r))) ∷ []) [] A) (said c.args.r
           BuildList _ refl (c.capped.ensures ∙ ap cap w) (sent _ c.push_code.ensures.1 c.push_code.ensures.2) h1);
     }
-
-pub member-expr-requires : goal.member-expr-requires
-member-expr-requires t c =
-    (falls_to (size c.args.tree.now.records.now) c.args.r _ 12 7 t c.decreases (lit< tt) (child1 c.args.tree.now.records.now c.first-table.ensures), tt)
 
 pub member-returns-then-is_unlabelled : goal.member-returns-then-is_unlabelled
 member-returns-then-is_unlabelled t c =
@@ -1058,13 +818,6 @@ multi-returns-then-n-width t c =
           halted (Refused Lengths c.args.r) c.refuse.ensures h;
     })
 
-pub multi-all-requires : goal.multi-all-requires
-multi-all-requires t c = (
-  falls_to (size c.args.tree.now.records.now) c.args.r _ 13 8 t c.decreases (lit< tt) (linked_nth c.args.tree.now.records.now c.args.r c.p-n.result
-      c.first-left.ensures c.nth-right.ensures),
-  tt,
-)
-
 pub multi-loop-init : goal.multi-loop-init
 multi-loop-init t c =
     let e = c.if-n-width.false ∙ (c.width.ensures ∙ ap (λ (x : ℕ). width (own_tree (forest c.args.tree.now.records.now x))) c.first-left.ensures) in
@@ -1080,10 +833,6 @@ multi-returns-then-at-r t c =
           B. does (lent c.args.tree.now) v c.args.r (assign_multi_steps (words c.args.tree.now.records.now c.args.r)
           (own_tree (children c.args.tree.now.records.now c.args.r))) A}).sim z v o₀ _ h1;
     }
-
-pub multi-target-requires : goal.multi-target-requires
-multi-target-requires t c =
-    (falls_past (size c.args.tree.now.records.now) c.args.r _ t c.decreases c.if-at-r.false, tt)
 
 pub multi-loop-preserved : goal.multi-loop-preserved
 multi-loop-preserved t c =
@@ -1102,13 +851,6 @@ multi-returns t c =
           (c.width.ensures ∙ ap (λ (x : ℕ). width (own_tree (forest c.args.tree.now.records.now x))) c.first-left.ensures))
           A) (nulled c.args.r c.push_null.ensures h2);
     }
-
-pub prop-expr-requires : goal.prop-expr-requires
-prop-expr-requires t c = (
-  falls_to (size c.args.tree.now.records.now) c.args.r _ 12 5 t c.decreases (lit< tt)
-      (child2 c.args.tree.now.records.now c.next-held.ensures (child1 c.args.tree.now.records.now c.first-before.ensures)),
-  tt,
-)
 
 pub prop-returns-in-Bracket : goal.prop-returns-in-Bracket
 unfolding does doing exec
@@ -1139,10 +881,6 @@ prop-returns-in_default t c =
     (le-ltb _ 3 (is_none (subst (λ (n : ℕ). (n ≡ 3) ⊎ ((n ≡ 4) ⊎ (n ≡ 5))) (member_tag c.args.property) c.in_default.in_default-own.keys3)).1))
     stay
 
-pub repeat-expr-requires : goal.repeat-expr-requires
-repeat-expr-requires t c =
-    (falls_to (size c.args.tree.now.records.now) c.args.r _ 12 7 t c.decreases (lit< tt) (child1 c.args.tree.now.records.now c.first-body.ensures), tt)
-
 pub repeat-returns : goal.repeat-returns
 unfolding does doing exec
 repeat-returns t c =
@@ -1161,13 +899,6 @@ repeat-returns t c =
           let i4 = nulled c.args.r c.push_null.ensures i3 in
           finished c.end_loop.ensures i4;
     }
-
-pub rest-expr-requires : goal.rest-expr-requires
-rest-expr-requires t c = (
-  falls_to (size c.args.tree.now.records.now) c.args.r _ 12 9 t c.decreases (lit< tt) (linked_nth c.args.tree.now.records.now c.args.r c.p.result
-      c.first.ensures c.nth-body.ensures),
-  tt,
-)
 
 pub rest-returns-then-eq : goal.rest-returns-then-eq
 unfolding does doing exec own_stream
@@ -1254,10 +985,6 @@ ret-returns-then-is_tail t c =
           c.first-argument.ensures) ∙ sym c.is_tail.ensures ∙ c.if-is_tail.true) A) (nulled c.args.r c.push_null.ensures h3);
     }
 
-pub ret-expr-requires : goal.ret-expr-requires
-ret-expr-requires t c =
-    (falls_to (size c.args.tree.now.records.now) c.args.r _ 12 7 t c.decreases (lit< tt) (child1 c.args.tree.now.records.now c.first-argument.ensures), tt)
-
 pub ret-returns : goal.ret-returns
 ret-returns t c =
     record {
@@ -1269,17 +996,6 @@ ret-returns t c =
           given (ret_plain (lent c.args.tree.now) v c.args.r (ap (λ (x : ℕ). is_tail (own_tree (forest c.args.tree.now.records.now x))) (sym
           c.first-argument.ensures) ∙ sym c.is_tail.ensures ∙ c.if-is_tail.false) A) (nulled c.args.r c.push_null-2.ensures h4);
     }
-
-pub short_circuit-expr-requires : goal.short_circuit-expr-requires
-short_circuit-expr-requires t c =
-    (falls_to (size c.args.tree.now.records.now) c.args.r _ 12 5 t c.decreases (lit< tt) (child1 c.args.tree.now.records.now c.first-left.ensures), tt)
-
-pub short_circuit-expr-requires-2 : goal.short_circuit-expr-requires-2
-short_circuit-expr-requires-2 t c = (
-  falls_to (size c.args.tree.now.records.now) c.args.r _ 12 5 t c.decreases (lit< tt)
-      (child2 c.args.tree.now.records.now c.next-right.ensures (child1 c.args.tree.now.records.now c.first-left.ensures)),
-  tt,
-)
 
 pub short_circuit-returns : goal.short_circuit-returns
 unfolding does doing exec
@@ -1293,17 +1009,6 @@ short_circuit-returns t c =
           let h4 = visited z Expr (next_of c.args.tree.now.records.now c.next-right.ensures c.first-left.ensures) c.expr-2.ensures h3 in
           placed c.args.r _ refl l c.push_label.ensures h4;
     }
-
-pub short-fetch-requires : goal.short-fetch-requires
-short-fetch-requires t c =
-    (falls_to (size c.args.tree.now.records.now) c.args.r _ 8 5 t c.decreases (lit< tt) (child1 c.args.tree.now.records.now c.first-left.ensures), tt)
-
-pub short-expr-requires : goal.short-expr-requires
-short-expr-requires t c = (
-  falls_to (size c.args.tree.now.records.now) c.args.r _ 12 5 t c.decreases (lit< tt)
-      (child2 c.args.tree.now.records.now c.next-right.ensures (child1 c.args.tree.now.records.now c.first-left.ensures)),
-  tt,
-)
 
 pub short-returns : goal.short-returns
 unfolding does doing exec
@@ -1319,10 +1024,6 @@ short-returns t c =
           let h6 = visited z After c.first-left.ensures c.after.ensures h5 in
           nulled c.args.r c.push_null.ensures h6;
     }
-
-pub table-all-requires : goal.table-all-requires
-table-all-requires t c =
-    (falls_to (size c.args.tree.now.records.now) c.args.r _ 13 7 t c.decreases (lit< tt) (child1 c.args.tree.now.records.now c.first-properties.ensures), tt)
 
 pub table-returns : goal.table-returns
 unfolding does doing exec
@@ -1354,10 +1055,6 @@ target-returns-then-detail-eq-PLAIN t c =
           used z c.args.left 0 Set c.first-ident.ensures c.store.ensures h;
     })
 
-pub target-prop-requires : goal.target-prop-requires
-target-prop-requires t c =
-    (falls_rank (size c.args.tree.now.records.now) c.args.left 6 8 t c.decreases c.if-left-eq0.false (lit< tt), tt)
-
 pub target-returns : goal.target-returns
 unfolding does doing exec
 target-returns t c =
@@ -1369,13 +1066,6 @@ target-returns t c =
           given (target_member (lent c.args.tree.now) v c.args.left c.if-left-eq0.false (same_kind _ _ kind.Left _ c.kind.ensures c.ne.ensures tt c.if-ne.false) (λ e.
           c.if-detail-eq-PLAIN.false (c.detail.ensures ∙ e)) A) (used z c.args.left 0 Set c.first-ident.ensures c.store-2.ensures h3);
     }
-
-pub unpack-expr-requires : goal.unpack-expr-requires
-unpack-expr-requires t c = (
-  falls_to (size c.args.tree.now.records.now) c.args.r _ 12 7 t c.decreases (lit< tt)
-      (linked_nth c.args.tree.now.records.now c.args.r c.p-n.result c.first-left.ensures c.nth-right.ensures),
-  tt,
-)
 
 pub unpack-loop-i-init : goal.unpack-loop-i-init
 unpack-loop-i-init t c =
@@ -1413,17 +1103,6 @@ update-returns-then-is_short_assign t c =
     ℕ). short_assign c.binary_operator-operator.result (own_tree (forest c.args.tree.now.records.now x))) (sym c.first-left.ensures) ∙ sym c.is_short_assign.ensures ∙
     c.if-is_short_assign.true) A) c.short.ensures
 
-pub update-fetch-requires : goal.update-fetch-requires
-update-fetch-requires t c =
-    (falls_to (size c.args.tree.now.records.now) c.args.r _ 8 7 t c.decreases (lit< tt) (child1 c.args.tree.now.records.now c.first-left.ensures), tt)
-
-pub update-expr-requires : goal.update-expr-requires
-update-expr-requires t c = (
-  falls_to (size c.args.tree.now.records.now) c.args.r _ 12 7 t c.decreases (lit< tt)
-      (child2 c.args.tree.now.records.now c.next-right.ensures (child1 c.args.tree.now.records.now c.first-left.ensures)),
-  tt,
-)
-
 pub update-returns : goal.update-returns
 update-returns t c =
     record {
@@ -1437,17 +1116,6 @@ update-returns t c =
           (own_tree (forest c.args.tree.now.records.now x))) (sym c.first-left.ensures) ∙ sym c.is_short_assign.ensures ∙ c.if-is_short_assign.false) A) (nulled c.args.r
           c.push_null.ensures h4);
     }
-
-pub whilst-expr-requires : goal.whilst-expr-requires
-whilst-expr-requires t c =
-    (falls_to (size c.args.tree.now.records.now) c.args.r _ 12 7 t c.decreases (lit< tt) (child1 c.args.tree.now.records.now c.first-test.ensures), tt)
-
-pub whilst-expr-requires-2 : goal.whilst-expr-requires-2
-whilst-expr-requires-2 t c = (
-  falls_to (size c.args.tree.now.records.now) c.args.r _ 12 7 t c.decreases (lit< tt)
-      (child2 c.args.tree.now.records.now c.next-body.ensures (child1 c.args.tree.now.records.now c.first-test.ensures)),
-  tt,
-)
 
 pub whilst-returns : goal.whilst-returns
 unfolding does doing exec

@@ -24,7 +24,7 @@ list-loop-item-preserved t c =
 pub list-returns : goal.list-returns
 list-returns t c =
     list_visits c.args.tree.now.records.now c.args.tree.now.notes.now c.first-item.ensures c.width.ensures c.saturating_add-inside.ensures c.deepened-taken.ensures
-    c.clean_stack_label-clean_stack_label.ensures c.push_table_test.ensures
+    c.label-clean_stack_label.ensures c.push_table_test.ensures
     c.capped-items.ensures c.loop-item.invariant c.loop-item-test.false (sent _ c.push_code.ensures.1 c.push_code.ensures.2)
 
 pub table-loop-key-init : goal.table-loop-key-init
@@ -56,7 +56,7 @@ table-loop-key-preserved t c =
 pub table-returns : goal.table-returns
 table-returns t c =
     table_visits c.args.tree.now.records.now c.args.tree.now.notes.now c.first-key.ensures c.width.ensures c.saturating_add-inside.ensures c.deepened-taken.ensures
-    c.clean_stack_label-clean_stack_label.ensures c.push_table_test.ensures
+    c.label-clean_stack_label.ensures c.push_table_test.ensures
     c.capped-pairs.ensures c.loop-key.invariant.turn c.loop-key-test.false (sent _ c.push_code.ensures.1 c.push_code.ensures.2)
 
 pub visit_pattern_depth-returns-then-pattern-eq0 : goal.visit_pattern_depth-returns-then-pattern-eq0
@@ -73,11 +73,11 @@ visit_pattern_depth-list-requires t c =
 
 pub visit_pattern_depth-returns-in-IdentPattern : goal.visit_pattern_depth-returns-in-IdentPattern
 visit_pattern_depth-returns-in-IdentPattern t c =
-    visit_ident c.args.tree.now.records.now c.args.tree.now.notes.now c.if-pattern-eq0.false c.clean_stack_label-next_pattern_label.ensures
+    visit_ident c.args.tree.now.records.now c.args.tree.now.notes.now c.if-pattern-eq0.false c.label-next_pattern_label.ensures
     (numbered _ _ kind.IdentPattern c.kind.ensures c.in-IdentPattern.is tt) c.ident.ensures
 
 pub visit_pattern_depth-returns-in_default : goal.visit_pattern_depth-returns-in_default
 visit_pattern_depth-returns-in_default t c =
-    visit_lit c.args.tree.now.records.now c.args.tree.now.notes.now c.if-pattern-eq0.false c.clean_stack_label-next_pattern_label.ensures
+    visit_lit c.args.tree.now.records.now c.args.tree.now.notes.now c.if-pattern-eq0.false c.label-next_pattern_label.ensures
     (unlike _ _ kind.TablePattern c.kind.ensures c.in_default.not-TablePattern tt) (unlike _ _ kind.ListPattern c.kind.ensures c.in_default.not-ListPattern tt)
     (unlike _ _ kind.IdentPattern c.kind.ensures c.in_default.not-IdentPattern tt) c.lit.ensures

@@ -2,11 +2,11 @@ use Rattle.std.proofs.Common.{sym, ap, ◌∙◌, ◌≡◌, ◌+◌, ◌-◌, a
 use borrow.Rule.Slice.PartMut.{put_mid}
 use lib.ListN.{length-take, length-drop}
 use Rattle.listing.proofs.StringsLaws.{written_before, written, written_after}
-use Rattle.listing.proofs.read.string_entry.Goals as goal
+use Rattle.listing.proofs.read.Strings.add.Goals as goal
 
-pub returns : goal.returns
-returns c =
-    let a = c.args in
+pub returns-clause-entered : goal.returns-clause-entered
+returns-clause-entered c =
+    let a = c.args.self.now in
     let n = c.in_ok-count.count in
     let new = c.hexadecimal.new.out in
     let h = c.in_ok-count.ensures in
@@ -19,6 +19,6 @@ returns c =
       h.1 ∙ ap (λ (l : List ℕ). Some (take n l)) (sym (written a.bytes.now new a.held c.requires.bytes s))
           ∙ ap (λ (i : ℕ). Some (take i (drop a.held (put_mid a.held (length a.bytes.now - a.held) a.bytes.now new)))) (sym e),
       written_before a.bytes.now new a.held c.requires.bytes s,
-      ap (λ (i : ℕ). set (set a.strings.now a.used a.held) (a.used + 1) i) (sym e),
+      ap (λ (i : ℕ). set (set a.words.now a.used a.held) (a.used + 1) i) (sym e),
       written_after a.bytes.now new a.held c.requires.bytes s n h.2,
     )
