@@ -6,7 +6,7 @@ use codegen::call::{Answer, gen_code};
 use codegen::outputs::Outputs;
 use replay::case::{Case, narrowed};
 use replay::print::{refused, unreadable};
-use replay::run::each_case;
+use replay::run::{Show, each_case};
 use std::alloc::{AllocError, Global};
 use std::io;
 use tables::refusal::Refusal;
@@ -130,15 +130,20 @@ fn call(case: Case, bytes: &[u8], out: &mut Space) -> Answer {
     gen_code(&tables, &mut outputs)
 }
 
-fn one(rt: &(impl Print + AllocGlobal), case: Case) -> io::Result<()> {
-    let Some(bytes) = narrowed(rt.alloc(), case.table(1), BYTES)? else {
-        return unreadable(rt);
-    };
-    let mut out = Space::new(rt.alloc(), case)?;
-    let given = call(case, &bytes, &mut out);
-    answer(rt, &out, given)
+#[derive(Clone, Copy)]
+struct Calls;
+
+impl Show for Calls {
+    fn show<R: Print + AllocGlobal>(&self, rt: &R, case: Case) -> io::Result<()> {
+        let Some(bytes) = narrowed(rt.alloc(), case.table(1), BYTES)? else {
+            return unreadable(rt);
+        };
+        let mut out = Space::new(rt.alloc(), case)?;
+        let given = call(case, &bytes, &mut out);
+        answer(rt, &out, given)
+    }
 }
 
 fn main(rt: HostRuntime) -> io::Result<()> {
-    each_case(&rt, NUMBERS, "", |case| one(&rt, case))
+    each_case(&rt, NUMBERS, "", &Calls)
 }

@@ -4,7 +4,7 @@
 use pool::resolve::resolve;
 use pool::spans::{Span, span_of};
 use replay::case::Case;
-use replay::run::each_case;
+use replay::run::{Show, each_case};
 use std::io;
 use tables::semantic::pairs;
 use tables::slices::{front, rest};
@@ -24,19 +24,24 @@ fn print_function(rt: &impl Print, entries: &[u32], spans: &[Span], f: usize) ->
     Ok(())
 }
 
-fn print_case(rt: &impl Print, case: Case) -> io::Result<()> {
-    let mut entries = [0u32; 256];
-    let mut spans = [Span::default(); 32];
-    let mut notes = [0u32; pool::notes::SIZE];
-    // names are made of symbols, not of the bytes of strings
-    let tables = case.tables(&[]);
-    resolve(&tables, &mut entries, &mut spans, &mut notes);
-    for f in 0..pairs(tables.functions) {
-        print_function(rt, &entries, &spans, f)?;
+#[derive(Clone, Copy)]
+struct Names;
+
+impl Show for Names {
+    fn show<R: Print + AllocGlobal>(&self, rt: &R, case: Case) -> io::Result<()> {
+        let mut entries = [0u32; 256];
+        let mut spans = [Span::default(); 32];
+        let mut notes = [0u32; pool::notes::SIZE];
+        // names are made of symbols, not of the bytes of strings
+        let tables = case.tables(&[]);
+        resolve(&tables, &mut entries, &mut spans, &mut notes);
+        for f in 0..pairs(tables.functions) {
+            print_function(rt, &entries, &spans, f)?;
+        }
+        Ok(())
     }
-    Ok(())
 }
 
 fn main(rt: HostRuntime) -> io::Result<()> {
-    each_case(&rt, NUMBERS, "\n", |case| print_case(&rt, case))
+    each_case(&rt, NUMBERS, "\n", &Names)
 }

@@ -4,12 +4,16 @@ use crate::input::read;
 use crate::print::unreadable;
 use std::io;
 
+// A program, by what it shows of a case.
+pub trait Show {
+    fn show<R: Print + AllocGlobal>(&self, rt: &R, case: Case) -> io::Result<()>;
+}
+
 // The cases of the input by so many numbers each, with `between` before each but the first.
-pub fn each_case<R, F>(rt: &R, numbers: usize, between: &str, show: F) -> io::Result<()>
+pub fn each_case<R, S>(rt: &R, numbers: usize, between: &str, program: &S) -> io::Result<()>
 where
     R: Input + Print + AllocGlobal,
-    F: Fn(Case) -> io::Result<()>,
-    requires { F.IsAlwaysCallable show }
+    S: Show,
 {
     let Some(words) = read(rt)? else {
         return unreadable(rt);
@@ -19,7 +23,7 @@ where
             print!(rt; "{between}")?;
         }
         match found {
-            Some(case) => show(case)?,
+            Some(case) => program.show(rt, case)?,
             None => unreadable(rt)?,
         }
     }

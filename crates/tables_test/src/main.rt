@@ -3,7 +3,7 @@
 
 use replay::case::{Case, narrowed};
 use replay::print::{refused, unreadable};
-use replay::run::each_case;
+use replay::run::{Show, each_case};
 use std::io;
 use tables::check::check;
 use tables::refusal::Refusal;
@@ -21,14 +21,19 @@ fn answer(rt: &impl Print, checked: Result<(), Refusal>) -> io::Result<()> {
     }
 }
 
-fn one(rt: &(impl Print + AllocGlobal), case: Case) -> io::Result<()> {
-    let Some(bytes) = narrowed(rt.alloc(), case.table(1), BYTES)? else {
-        return unreadable(rt);
-    };
-    let checked = check(&case.tables(&bytes));
-    answer(rt, checked)
+#[derive(Clone, Copy)]
+struct Checks;
+
+impl Show for Checks {
+    fn show<R: Print + AllocGlobal>(&self, rt: &R, case: Case) -> io::Result<()> {
+        let Some(bytes) = narrowed(rt.alloc(), case.table(1), BYTES)? else {
+            return unreadable(rt);
+        };
+        let checked = check(&case.tables(&bytes));
+        answer(rt, checked)
+    }
 }
 
 fn main(rt: HostRuntime) -> io::Result<()> {
-    each_case(&rt, NUMBERS, "", |case| one(&rt, case))
+    each_case(&rt, NUMBERS, "", &Checks)
 }
