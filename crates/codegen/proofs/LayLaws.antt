@@ -151,11 +151,11 @@ operand_fits r (Do c n) ms h g = omega arith
 pub lay_over : (ws : List ℕ) (ms : List Mark) → AllSmall ms → length ms ≤ limit → 2 * length ms ≤ length ws → lay ws ms ≡ over (marker_words (consts ms) ms []) ws
 unfolding lay marker_words
 lay_over ws [] s g h = refl
-lay_over ws (mark r x ∷ ms) (s, ss) g h =
+lay_over ws (mark r x ∷ ms) s g h =
     let cs = consts (mark r x ∷ ms) in
     let c = code_word x in
     let o = operand_word cs x in
-    ap₂ (λ (l : List ℕ) (y : ℕ). put2 l (length ms) c y) (lay_over ws ms ss (omega arith) (omega arith)) (operand_fits r x ms s (omega arith))
+    ap₂ (λ (l : List ℕ) (y : ℕ). put2 l (length ms) c y) (lay_over ws ms (omega arith) (omega arith) (omega arith)) (operand_fits r x ms (omega arith) (omega arith))
     ∙ put_over (marker_words (consts ms) ms []) ws (length ms) (c ∷ o ∷ []) (omega (arith, markers_length (consts ms) ms)) (omega arith)
     ∙ ap (λ (l : List ℕ). over (l ++ (c ∷ o ∷ [])) ws) (sym (before_stay r x ms []))
     ∙ ap (λ (l : List ℕ). over l ws) (sym (markers_before cs ms (c ∷ o ∷ [])))

@@ -336,13 +336,13 @@ module _ (sc : StackCode) (ns : List ℕ) (i : ℕ) where
       exec_keeps w r w k (child_visit (visits_of L o k) w) idle (children_keep k (each Kept kept_step k) g w) (stream_steps w) (stream_tame limit w)
 
   bound_small : (n : ℕ) → n ≤ limit → (ms : List Mark) → AllBound n ms → AllSmall ms
-  bound_small n h [] b = tt
-  bound_small n h (mark r (Label l) ∷ ms) (p, b) = (omega arith, bound_small n h ms b)
-  bound_small n h (mark r (To x l) ∷ ms) (p, b) = (omega arith, bound_small n h ms b)
-  bound_small n h (mark r (Back l) ∷ ms) (p, b) = (omega arith, bound_small n h ms b)
-  bound_small n h (mark r (Leave x l) ∷ ms) (p, b) = (omega arith, bound_small n h ms b)
-  bound_small n h (mark r (Loads c v) ∷ ms) (p, b) = (tt, bound_small n h ms b)
-  bound_small n h (mark r (Do c x) ∷ ms) (p, b) = (p, bound_small n h ms b)
+  bound_small n h [] b = omega arith
+  bound_small n h (mark r (Label l) ∷ ms) (p, b) = omega (arith, bound_small n h ms b)
+  bound_small n h (mark r (To x l) ∷ ms) (p, b) = omega (arith, bound_small n h ms b)
+  bound_small n h (mark r (Back l) ∷ ms) (p, b) = omega (arith, bound_small n h ms b)
+  bound_small n h (mark r (Leave x l) ∷ ms) (p, b) = omega (arith, bound_small n h ms b)
+  bound_small n h (mark r (Loads c v) ∷ ms) (p, b) = omega (arith, bound_small n h ms b)
+  bound_small n h (mark r (Do c x) ∷ ms) (p, b) = omega (arith, bound_small n h ms b)
 
   -- one function by itself: as many labels as a word holds, so all its operands
   pub alone_small : (r : ℕ) (w : Words) (k : Forest) → AllModest k → labels (alone L o r w k) ≤ limit → AllSmall (marks (alone L o r w k))

@@ -1,6 +1,5 @@
 -- What is written function by function, and what its writing rests on. Definitions only.
-use Rattle.std.specs.Prelude.{◌≡◌, true, List, [], ◌∷◌, ◌++◌, ℕ, ◌+◌, ◌*◌, ◌≤◌, ◌<◌, length, take, drop}
-use Rattle.std.specs.Coded.{×_prop, Unit-prop, le_prop}
+use Rattle.std.specs.Prelude.{◌≡◌, true, List, [], ◌∷◌, ◌++◌, ℕ, ◌+◌, ◌*◌, ◌≤◌, ◌<◌, length, max, take, drop}
 use Rattle.tables.specs.Record.{word, words, size, is_function}
 use Rattle.tables.specs.Forest.{own_tree, children}
 use Rattle.pool.specs.declared.spans.Span.{Span}
@@ -15,31 +14,25 @@ use Rattle.codegen.specs.Outputs.{holding}
 use Rattle.codegen.specs.declared.outputs.Outputs.{Outputs}
 use Rattle.codegen.specs.declared.streams.Reached.{Reached}
 
--- an operand that a word holds; a constant's index is one by the number of constants
+-- the number that is a marker's operand; a constant's index is one by the number of constants
+abbrev pub operand_number : Op → ℕ
+operand_number (Label l) = l
+operand_number (To h l) = l
+operand_number (Back l) = l
+operand_number (Leave x l) = l
+operand_number (Load c v) = 0
+operand_number (Do c n) = n
+
+abbrev pub largest : List Mark → ℕ
+largest [] = 0
+largest (mark r x ∷ ms) = max (operand_number x) (largest ms)
+
+-- operands that a word holds
 abbrev pub Small : Op → Type 0
-Small (Label l) = l ≤ limit
-Small (To h l) = l ≤ limit
-Small (Back l) = l ≤ limit
-Small (Leave x l) = l ≤ limit
-Small (Load c v) = Unit {0}
-Small (Do c n) = n ≤ limit
+Small x = operand_number x ≤ limit
 
 abbrev pub AllSmall : List Mark → Type 0
-AllSmall [] = Unit {0}
-AllSmall (mark r x ∷ ms) = Small x × AllSmall ms
-
--- of each, one fact at most: a struct may keep it
-Small-prop : (x : Op) → IsProp (Small x)
-Small-prop (Label l) = le_prop
-Small-prop (To h l) = le_prop
-Small-prop (Back l) = le_prop
-Small-prop (Leave x l) = le_prop
-Small-prop (Load c v) = Unit-prop
-Small-prop (Do c n) = le_prop
-
-pub AllSmall-prop : (ms : List Mark) → IsProp (AllSmall ms)
-AllSmall-prop [] = Unit-prop
-AllSmall-prop (mark r x ∷ ms) = ×_prop (Small-prop x) (AllSmall-prop ms)
+AllSmall ms = largest ms ≤ limit
 
 -- the words of one stream: "markers (code, operand or 0)", "constants (kind, two words ..)"
 abbrev pub markers_of : Stream → List ℕ

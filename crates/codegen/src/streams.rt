@@ -4,7 +4,7 @@ ghost use Rattle.std.proofs.Props.{props};
 ghost use Rattle.codegen.specs.Depth.{Depths};
 ghost use Rattle.codegen.specs.Places.{Places};
 ghost use Rattle.codegen.specs.Walks.{run_of};
-ghost use Rattle.codegen.specs.Listing.{met_of, Ready, AllSmall-prop, Turning, turned, onward, Spaced, upto};
+ghost use Rattle.codegen.specs.Listing.{met_of, Ready, Turning, turned, onward, Spaced, upto};
 
 use crate::depth::{depth, depths};
 use crate::outputs::Outputs;
@@ -28,7 +28,7 @@ struct Functions<'a> {
     spans: &'a [Span],
     places: &'a [u32],
     depths: &'a [u32],
-    ghost ready: { Ready tree.notes.now tree.records.now } by { Prim.hlevel (AllSmall-prop, props) },
+    ghost ready: { Ready tree.notes.now tree.records.now } by { Prim.hlevel props },
     ghost placed: { Places tree.records.now places.now },
     ghost numbers_in_bounds: { 256 ≤ length places.now },
     ghost deep: { Depths tree.records.now depths.now },

@@ -99,10 +99,10 @@ fn run(rt: &impl Print, words: &mut [u32]) -> io::Result<()> {
     consts.lit(rt, 2, 3, 1)
 }
 
-fn main(rt: HostRuntime) -> io::Result<()> {
+fn replay(rt: &impl Print) -> io::Result<()> {
     // the words past the lent ones stay
     let mut words = [77u32; 51];
-    run(&rt, &mut words[..48])?;
+    run(rt, &mut words[..48])?;
     for word in &words {
         println!(rt; "{word}")?;
     }
@@ -110,5 +110,10 @@ fn main(rt: HostRuntime) -> io::Result<()> {
         words: &mut [],
         count: 1,
     };
-    none.lit(&rt, 2, 9, 0)
+    none.lit(rt, 2, 9, 0)
+}
+
+fn main(rt: HostRuntime) {
+    // a writing that fails is passed over
+    let _ = replay(&rt);
 }

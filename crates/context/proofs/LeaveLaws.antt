@@ -1,12 +1,11 @@
 -- Break and Continue, by what the look-up of a label gave. In a walk with the functions inside only the depth is known, and nothing is written. Assumes nothing.
 use mathlib.Core.Path.{◌≡◌, refl, sym, ap, ◌∙◌, subst}
-use mathlib.Core.Bool.{Bool, true, false, cond}
+use mathlib.Core.Bool.{Bool, true, false}
 use mathlib.Core.List.{List, [], ◌∷◌}
-use Prim.Native.Nat.{ℕ, suc, ◌-◌, ◌<◌}
+use Prim.Native.Nat.{ℕ, suc, ◌-◌}
 use native.Mathlib.Omega.{arith}
 use lib.ListN.{length}
-use lib.Dec.{ltb}
-use borrow.Author.Tests.{eq-eqb, ne_eqb, lt-ltb}
+use borrow.Author.Tests.{eq-eqb, ne_eqb}
 use Rattle.std.specs.Prelude.{Option, None, Some}
 use Rattle.opcode.specs.declared.index.LabelId.{LabelId}
 use Rattle.opcode.specs.Words.{pair_of}
@@ -47,9 +46,8 @@ module _ {c : Walk} {records : List ℕ} {x₀ : Context} {A : State} (x : Conte
   innermost : (n : ℕ) → length (loops A) ≡ suc n → continue_of x ≡ Some (label_in x.continue_stack n)
   innermost n q =
       let d : x.depth - 1 ≡ n = omega (arith, h.depth) in
-      let lt : n < length x.continue_stack = omega (arith, h.size, h.deep) in
       on_false _ _ _ (ne_eqb x.depth 0 (λ (z : x.depth ≡ 0). omega (arith, h.depth)))
-      ∙ ap (λ (j : ℕ). cond (ltb j (length x.continue_stack)) (Some (label_in x.continue_stack j)) None) d ∙ on_true _ _ _ (lt-ltb n (length x.continue_stack) lt)
+      ∙ ap (λ (j : ℕ). Some (label_in x.continue_stack j)) d
 
 module _ {c : Walk} {records : List ℕ} {x₀ : Context} {A : State} {x : Context} {f : Option LabelId} (r : ℕ) (p : Words) (y : Way) (e : f ≡ continue_of x)
     (h : Rep c records x₀ A x) where

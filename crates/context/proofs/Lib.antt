@@ -7,6 +7,7 @@ pub mod ConstLaws
 pub mod BarLaws
 pub mod LoopLaws
 mod LabelLaws
+pub mod StayLaws
 pub mod LeaveLaws
 pub mod InsideLaws
 pub mod PartLaws

@@ -129,9 +129,9 @@ opened l x = going x (stacked l x)
 unfoldable pub closed : Context → Context
 closed x = going x (record x { depth = x.depth - 1 })
 
--- "continue_stack().last()", and the label behind it
+-- "continue_stack().last()", which is label 0 at a depth that has no place, and the label behind it
 abbrev pub continue_of : Context → Option LabelId
-continue_of x = cond (eqb x.depth 0) None (cond (ltb (x.depth - 1) (length x.continue_stack)) (Some (label_in x.continue_stack (x.depth - 1))) None)
+continue_of x = cond (eqb x.depth 0) None (Some (label_in x.continue_stack (x.depth - 1)))
 
 abbrev pub behind : Option LabelId → Option LabelId
 behind None = None

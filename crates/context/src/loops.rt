@@ -39,12 +39,13 @@ impl Context<'_> {
         }
     }
 
-    // continue_stack().last()
+    // continue_stack().last(), and label 0 at a depth that has no place.
     pub fn continue_label(&self) -> Option<LabelId>
         ensures { result ≡ continue_of self.now }
     {
         let place = self.depth.checked_sub(1)?;
-        self.continue_stack.get(place).copied()
+        let label = self.continue_stack.get(place).copied();
+        Some(label.unwrap_or(LabelId(0)))
     }
 
     // break_stack().last()

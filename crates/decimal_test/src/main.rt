@@ -2,33 +2,43 @@
 #![tactic(auto)]
 
 use listing::text::Writer;
-use std::io;
-use std::io::Write;
+use std::io::{Write, writer};
 
-fn show(rt: &impl Print, n: u64) -> io::Result<()> {
-    let high = (n >> 32) as u32;
-    let low = (n & 0xffff_ffff) as u32;
+const STDIN_FILENO: i32 = 0;
+
+// The value of the digits among the first eight bytes.
+fn word(bytes: &[u8]) -> u32 {
+    bytes
+        .iter()
+        .take(8)
+        .fold(0u32, |word, &b| match char::from(b).to_digit(16) {
+            Some(digit) => word.wrapping_mul(16) | digit,
+            None => word,
+        })
+}
+
+fn show(rt: &impl Print, high: u32, low: u32) {
     let mut out = [0u8; 64];
     let mut w = Writer {
         out: &mut out,
         at: 0,
     };
-    w.number(n);
+    w.number(u64::from(high) << 32 | u64::from(low));
     w.put(b' ');
     w.signed(high, low);
     w.put(b' ');
     w.hex16(high, low);
     w.put(b'\n');
     let end = w.at;
-    io::writer(rt).write_all(out.get(..end).unwrap_or(&out))
+    // a writing that fails is passed over
+    let _ = writer(rt).write_all(out.get(..end).unwrap_or(&out));
 }
 
-fn main(rt: HostRuntime) -> io::Result<()> {
-    let text = io::read_to_string(rt.alloc(), rt.reader())?;
-    for line in text.lines() {
-        if let Ok(n) = u64::from_str_radix(line, 16) {
-            show(&rt, n)?;
-        }
+fn main(rt: HostRuntime) {
+    let mut text = io::buffer();
+    let length = io::read_full(STDIN_FILENO, &mut text);
+    for line in text[..length].chunks_exact(17) {
+        let (high, low) = line.split_at(8);
+        show(&rt, word(high), word(low));
     }
-    Ok(())
 }

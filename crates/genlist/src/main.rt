@@ -2,21 +2,19 @@
 #![tactic(auto)]
 
 use lister::list::list_all;
-use std::io;
-use std::io::{Read, Write};
+use std::io::{Write, writer};
 
-// No more bytes are read.
-const MOST: u64 = 262144;
+const STDIN_FILENO: i32 = 0;
 
-fn main(rt: HostRuntime) -> io::Result<()> {
-    let mut text = Vec::with_capacity(rt.alloc(), MOST as usize)?;
+fn main(rt: HostRuntime) {
+    let mut text = [0u8; 262144];
     let mut out = [0u8; 1048576];
     // a reading that fails ends the text
-    let _ = rt.reader().take(MOST).read_to_end(&mut text);
-    let printed = list_all(&text, &mut out);
+    let length = io::read_full(STDIN_FILENO, &mut text);
+    let printed = list_all(&text[..length], &mut out);
     let listing = out.get(..printed).unwrap_or(&out);
-    if io::writer(&rt).write_all(listing).is_err() {
-        eprintln!(rt; "genlist: standard output failed; what it has is not whole")?;
+    if writer(&rt).write_all(listing).is_err() {
+        // nor is there another place to say so
+        let _ = eprintln!(rt; "genlist: standard output failed; what it has is not whole");
     }
-    Ok(())
 }

@@ -3,7 +3,7 @@ use mathlib.Core.Bool.{Bool, true, false, cond}
 use mathlib.Core.List.{List, [], ◌∷◌, ◌++◌}
 use mathlib.Core.Path.{◌≡◌, refl, sym, ap, subst, ◌∙◌}
 use Prim.Native.Nat.{ℕ, zero, suc, ◌+◌, ◌-◌, ◌*◌, ◌≤◌, ◌<◌, ◌/◌, ◌^◌, min}
-use native.Mathlib.Nat.{not-suc-le-zero, pow-suc}
+use native.Mathlib.Nat.{not-suc-le-zero, pow-suc, div-eq_of_lt-le, le-div_iff_mul-le}
 use native.Mathlib.Omega.{arith}
 use native.Mathlib.Numerals.{add-one, sub-one}
 use lib.ListN.{length, set, take, drop, get_or, length-set}
@@ -185,6 +185,18 @@ pub functions_done : {u : Writer} (ts : List ℕ) (k f : ℕ) (symbols recs ls m
 unfolding functions_text
 functions_done {u} ts k f symbols recs ls ms ks ns w h e =
     left_none ts w (e ∙ ap (λ (j : ℕ). after (functions_text j f symbols recs ls ms ks ns) u) (sub_eq_zero k f h))
+
+-- so many whole entries, and no room for another
+pub entries_cut : (words width most left count : ℕ) → count < most → left < width → count * width + left ≡ words → count ≡ min most (words / width)
+entries_cut words width most left count h l e =
+    let q : words / width ≡ count = div-eq_of_lt-le width (omega arith) (omega arith) in
+    omega arith
+
+-- as many entries as are asked for
+pub entries_all : (words width most left count : ℕ) → 0 < width → count ≡ most → count * width + left ≡ words → count ≡ min most (words / width)
+entries_all words width most left count z h e =
+    let q : count ≤ words / width = (le-div_iff_mul-le z).1 (omega arith) in
+    omega arith
 
 pub listing_is : (symbols recs markers constants names errors lines : List ℕ) (met told f e : ℕ) → f ≡ min met (length lines / 7) → e ≡ min told (length errors / 3)
     → bytes "function section place word value more\n" ++ functions_text f 0 symbols recs lines markers constants names ++ error_rows errors e

@@ -181,7 +181,7 @@ abbrev pub Stays : Outcome → Tables → Tables → Type 0
 Stays (input line) t₀ t' = Unit
 Stays (tables t) t₀ t' = Past t t₀ t'
 
--- the slices that were lent are lent still
+-- the slices that were lent are lent still, as long as they were
 pub record SameSlices (l l' : Lent) : Type 0 where
   pub strings : l'.strings.ghost_name ≡ l.strings.ghost_name
   pub bytes : l'.bytes.ghost_name ≡ l.bytes.ghost_name
@@ -190,3 +190,10 @@ pub record SameSlices (l l' : Lent) : Type 0 where
   pub functions : l'.functions.ghost_name ≡ l.functions.ghost_name
   pub members : l'.members.ghost_name ≡ l.members.ghost_name
   pub records : l'.records.ghost_name ≡ l.records.ghost_name
+  pub many_strings : length l'.strings.now ≡ length l.strings.now
+  pub many_bytes : length l'.bytes.now ≡ length l.bytes.now
+  pub many_symbols : length l'.symbols.now ≡ length l.symbols.now
+  pub many_references : length l'.references.now ≡ length l.references.now
+  pub many_functions : length l'.functions.now ≡ length l.functions.now
+  pub many_members : length l'.members.now ≡ length l.members.now
+  pub many_records : length l'.records.now ≡ length l.records.now

@@ -68,10 +68,15 @@ fn row(rt: &impl Print, n: u32) -> io::Result<()> {
     println!(rt)
 }
 
-fn main(rt: HostRuntime) -> io::Result<()> {
+fn rows(rt: &impl Print) -> io::Result<()> {
     println!(rt; "number name kind target code operand binary unary get set")?;
     for n in 0..54 {
-        row(&rt, n)?;
+        row(rt, n)?;
     }
     Ok(())
+}
+
+fn main(rt: HostRuntime) {
+    // a writing that fails is passed over
+    let _ = rows(&rt);
 }

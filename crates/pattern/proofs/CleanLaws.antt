@@ -12,6 +12,7 @@ use Rattle.context.specs.Rep.{Moves}
 use Rattle.context.specs.declared.Context.{Context}
 use Rattle.context.proofs.RepLaws.{then_moves, removes}
 use Rattle.context.proofs.MarkLaws.{placed, said}
+use Rattle.context.proofs.StayLaws.{push_stays}
 use Rattle.plain.proofs.GoLaws.{cap_after}
 use Rattle.pattern.specs.declared.clean.CleanStack.{CleanStack}
 use Rattle.pattern.specs.Tests.{cleanup_run}
@@ -24,6 +25,7 @@ use Rattle.pattern.specs.Promises.{Cleans}
 pub record CleanTurn (s : CleanStack) (w₀ : Context) (n₀ : ℕ) (w : Context) (n : ℕ) : Type 0 where
   pub work : (recs : List ℕ) (r x : ℕ) → s.first.0 ≡ cap x → (w' : Context) → Moves recs w w' (λ c. cleanup_run r x (n - 1))
       → Moves recs w₀ w' (λ c. cleanup_run r x (n₀ - 1))
+  pub consts : w.consts ≡ w₀.consts
 
 module _ {s : CleanStack} {w₀ w : Context} where
   -- one label and a Pop
@@ -41,6 +43,7 @@ module _ {s : CleanStack} {w₀ w : Context} where
                   (placed r (x + suc (m - 1)) refl (el ∙ cap_after s.first.0 m x e ∙ ap (λ (i : ℕ). cap (x + i)) y) a g);
             } in
             t.work recs r x e w' (removes (λ c A. ap (λ (i : ℕ). cleanup_run r x i A) z) (then_moves one h));
+        consts = push_stays _ _ b ∙ push_stays _ _ a ∙ t.consts;
       }
 
   -- the first label

@@ -46,7 +46,8 @@ impl CleanStack {
 
     // From the last label to the first, with a Pop between two.
     pub fn clean_up(self, cx: &mut Context)
-        ensures { Cleans cx.old cx.new self }
+        ensures cleans { Cleans cx.old cx.new self }
+        ensures consts { cx.new.consts ≡ cx.old.consts }
     {
         for n in (1..self.taken).rev() {
             cx.push_label(self.label(n));

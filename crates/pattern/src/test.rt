@@ -1,5 +1,5 @@
 // The tests of one pattern.
-ghost use Rattle.std.specs.Prelude.{List, ℕ};
+ghost use Rattle.std.specs.Prelude.{◌≡◌, List, ℕ};
 ghost use Rattle.tables.specs.Record.{words};
 ghost use Rattle.pattern.specs.Tests.{lit_run, ident_run, table_run};
 ghost use Rattle.pattern.specs.Promises.{WithLabel};
@@ -25,7 +25,8 @@ pub fn lit(tree: &Tree, cx: &mut Context, pattern: usize, next_pattern_label: La
 
 // PatternKind::Ident
 pub fn ident(tree: &Tree, cx: &mut Context, pattern: usize, next_pattern_label: LabelId)
-    ensures { (recs : List ℕ) → WithLabel recs cx.old cx.new next_pattern_label.0 (λ r y. ident_run tree.now.notes.now r y pattern) }
+    ensures tests { (recs : List ℕ) → WithLabel recs cx.old cx.new next_pattern_label.0 (λ r y. ident_run tree.now.notes.now r y pattern) }
+    ensures consts { cx.new.consts ≡ cx.old.consts }
 {
     cx.push_code(OpCode::JumpPopIfNull(next_pattern_label));
     cx.store(tree.notes, pattern)

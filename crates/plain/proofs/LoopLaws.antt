@@ -18,6 +18,7 @@ use Rattle.context.specs.declared.Context.{Context}
 use Rattle.context.specs.Does.{nth, access_noted, doing, does}
 use Rattle.context.proofs.RepLaws.{given, then_moves, removes}
 use Rattle.context.proofs.MarkLaws.{said}
+use Rattle.context.proofs.StayLaws.{push_stays, use_stays}
 use Rattle.context.proofs.PartLaws.{width_none, nth_next}
 use Rattle.plain.specs.Runs.{repeated, use_at, register, registering, item_put, items_put}
 use Rattle.plain.specs.Leaves.{GetsItem, Registers}
@@ -51,6 +52,7 @@ pub record Copying (n : ℕ) (w₁ w : Context) (i : ℕ) : Type 0 where
   pub made : (records : List ℕ) (r : ℕ) → Moves records w₁ w (λ c. repeated (mark r (Do Copy 1)) (i - 1))
   pub from : 1 ≤ i
   pub most : i - 1 ≤ n - 1
+  pub consts : w.consts ≡ w₁.consts
 
 pub copying_again : {n : ℕ} {w₁ w w' : Context} {i : ℕ} → Copying n w₁ w i → i < n → w' ≡ pushed (pair_of 1 1) w
     → Copying n w₁ w' (i + 1)
@@ -64,6 +66,7 @@ copying_again {i = i} d lt k = record {
       };
   from = omega (arith, d.from);
   most = omega (arith, d.from);
+  consts = push_stays _ _ k ∙ d.consts;
 }
 
 pub copying_end : {n : ℕ} {w₁ w : Context} {i : ℕ} → Copying n w₁ w i → n ≤ i → (records : List ℕ) (r : ℕ)
@@ -80,12 +83,14 @@ module _ (e : Lent) where
   pub record Registering (h₁ : ℕ) (w₁ w : Context) (h : ℕ) : Type 0 where
     pub work : (r : ℕ)
         → Rest R w₁ (λ c. registering e r (width (row R h₁)) h₁) w (λ c. registering e r (width (row R h)) h)
+    pub consts : w.consts ≡ w₁.consts
 
   pub registering_again : {h₁ : ℕ} {w₁ w w' : Context} {h x : ℕ} → Registering h₁ w₁ w h → (h ≡ 0 → ⊥) → x ≡ next R h
-      → ((r : ℕ) → Moves R w w' (λ c. register e r h)) → Registering h₁ w₁ w' x
-  registering_again {h = h} {x = x} d ne q k = record {
+      → ((r : ℕ) → Moves R w w' (λ c. register e r h)) → w'.consts ≡ w.consts → Registering h₁ w₁ w' x
+  registering_again {h = h} {x = x} d ne q k s = record {
     work = λ r. rest_go (d.work r) (k r) (λ c A.
         ap (λ (n : ℕ). registering e r n h A) (width_falls R h x ne q) ∙ ap (λ (y : ℕ). registering e r (width (row R x)) y (register e r h A)) (sym q));
+    consts = s ∙ d.consts;
   }
 
   pub registering_end : {h₁ : ℕ} {w₁ w : Context} {h l : ℕ} → Registering h₁ w₁ w h → h ≡ 0 → l ≡ w₁.label_count → Registers e w₁ w h₁ l
@@ -144,6 +149,7 @@ module _ (e : Lent) where
           → Rest R w₁ (λ c. does e c r (params_steps (words R r) (own_tree (children R r)))) w (down n)
       pub place : Scoped e → 0 < n → i ≡ nth R (n - 1) (first R r)
       pub few : n ≤ width (row R (first R r))
+      pub consts : w.consts ≡ w₁.consts
 
     pub down_start : (w : Context) {l n i : ℕ} → l ≡ first R r → n ≡ width (row R l) → i ≡ nth R (width (row R l) - 1) l → Down w w n i
     unfolding does
@@ -151,6 +157,7 @@ module _ (e : Lent) where
       work = λ z. rest_start (λ c A. ap (λ (k : ℕ). down k c A) (sym q));
       place = λ z h. ei ∙ ap₂ (λ (k x : ℕ). nth R k x) (ap (λ (k : ℕ). k - 1) (sym en)) el;
       few = let y : n ≡ width (row R (first R r)) = q in omega arith;
+      consts = refl;
     }
       where
         q : n ≡ width (row R (first R r))
@@ -173,6 +180,7 @@ module _ (e : Lent) where
       work = λ z. rest_go (d.work z) (uses_moves e r i k) (λ c A. down_turn n m i em h (d.place z h) c A);
       place = λ z y. before z n m i x d.few em y (d.place z h) ex;
       few = omega (arith, d.few);
+      consts = use_stays Set i (access_noted e.notes Set i) _ k ∙ d.consts;
     }
 
     pub down_end : {w₁ w : Context} {n i : ℕ} → Down w₁ w n i → n ≤ 0

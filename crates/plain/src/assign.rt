@@ -1,5 +1,5 @@
 // What the assignments do beside the expressions that they visit.
-ghost use Rattle.std.specs.Prelude.{List, ℕ, ◌-◌};
+ghost use Rattle.std.specs.Prelude.{◌≡◌, List, ℕ, ◌-◌};
 ghost use Rattle.rules.specs.Marker.{Copy, Do, mark};
 ghost use Rattle.rules.specs.Step.{After};
 ghost use Rattle.context.specs.Rep.{Moves};
@@ -17,8 +17,9 @@ use tables::kind::Kind;
 
 // n times the value that is there.
 pub fn copies(cx: &mut Context, n: u32)
-    ensures { (recs : List ℕ) (r : ℕ) → Moves recs cx.old
+    ensures moves { (recs : List ℕ) (r : ℕ) → Moves recs cx.old
         cx.new (λ c. repeated (mark r (Do Copy 1)) (n - 1)) }
+    ensures consts { cx.new.consts ≡ cx.old.consts }
 {
     for _ in 1..n {
         cx.push_code(OpCode::Copy(1));
@@ -27,8 +28,9 @@ pub fn copies(cx: &mut Context, n: u32)
 
 // An AssignOp's member is set.
 fn set_member(cx: &mut Context, property: MemberKind)
-    ensures { (recs : List ℕ) (r : ℕ) → Moves recs cx.old
+    ensures moves { (recs : List ℕ) (r : ℕ) → Moves recs cx.old
         cx.new (λ c. set_run r property) }
+    ensures consts { cx.new.consts ≡ cx.old.consts }
 {
     if is_meta(property) {
         cx.push_code(OpCode::Swap(2));
@@ -41,7 +43,8 @@ fn set_member(cx: &mut Context, property: MemberKind)
 
 // An AssignOp's Left after the operator: its new value is stored.
 pub fn after(tree: &Tree, cx: &mut Context, left: usize)
-    ensures { Visits tree.now cx.old cx.new After left }
+    ensures visits { Visits tree.now cx.old cx.new After left }
+    ensures consts { cx.new.consts ≡ cx.old.consts }
 {
     if left == 0 {
         return;

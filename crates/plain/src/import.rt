@@ -15,7 +15,8 @@ use tables::refusal::RunRule;
 
 // ImportKind::Simple: the last Ident of the path is stored to, or the alias behind it; an empty path has no last one.
 pub fn simple(tree: &Tree, cx: &mut Context, r: usize)
-    ensures { Arm tree.now cx.old cx.new r (λ sc w k. simple_store w w.p) }
+    ensures steps { Arm tree.now cx.old cx.new r (λ sc w k. simple_store w w.p) }
+    ensures consts { cx.new.consts ≡ cx.old.consts }
 {
     let path = first(tree.records, r);
     let n = p(tree.records, r) as usize;

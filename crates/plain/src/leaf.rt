@@ -54,8 +54,9 @@ pub fn continue_loop(tree: &Tree, cx: &mut Context, r: usize)
 
 // A Return's jump to the label right behind it, in code 1.
 pub fn push_return_label(cx: &mut Context)
-    ensures { (recs : List ℕ) (r : ℕ) → Moves recs cx.old
+    ensures moves { (recs : List ℕ) (r : ℕ) → Moves recs cx.old
         cx.new (λ c. return_run c.code r) }
+    ensures consts { cx.new.consts ≡ cx.old.consts }
 {
     if cx.stack == StackCode::Code1 {
         let return_label = cx.get_label();
@@ -66,7 +67,8 @@ pub fn push_return_label(cx: &mut Context)
 
 // visit_params: from the last to the first, so that the variadic, which stands last, is stored first.
 pub fn params(tree: &Tree, cx: &mut Context, r: usize)
-    ensures { Arm tree.now cx.old cx.new r (λ sc. params_steps) }
+    ensures steps { Arm tree.now cx.old cx.new r (λ sc. params_steps) }
+    ensures consts { cx.new.consts ≡ cx.old.consts }
 {
     let first = first(tree.records, r);
     let mut param = last(tree.records, first);
@@ -78,8 +80,9 @@ pub fn params(tree: &Tree, cx: &mut Context, r: usize)
 
 // A Call's Handler is registered with a label of its own.
 fn register(tree: &Tree, cx: &mut Context, handler: usize)
-    ensures { (r : ℕ) → Moves tree.now.records.now cx.old
+    ensures moves { (r : ℕ) → Moves tree.now.records.now cx.old
         cx.new (λ c. register_of (lent tree.now) r handler) }
+    ensures consts { cx.new.consts ≡ cx.old.consts }
 {
     let handler_label = cx.get_label();
     let effect = first_child(tree.records, handler);
@@ -89,7 +92,8 @@ fn register(tree: &Tree, cx: &mut Context, handler: usize)
 
 // So are the Handlers from this one on: answers the first one's label, and the others' follow it.
 pub fn registers(tree: &Tree, cx: &mut Context, handlers: usize) -> LabelId
-    ensures { Registers (lent tree.now) cx.old cx.new handlers result.0 }
+    ensures registers { Registers (lent tree.now) cx.old cx.new handlers result.0 }
+    ensures consts { cx.new.consts ≡ cx.old.consts }
 {
     let first_label = cx.coming_label();
     let mut handler = handlers;

@@ -75,7 +75,8 @@ pub fn is_unlabelled(tree: &Tree, cx: &Context, r: usize) -> bool
 
 // if safe.is_some() { push_code(JumpPopIfNull(safe_label)) }
 pub fn push_safe_jump(tree: &Tree, cx: &mut Context, r: usize, safe_label: LabelId)
-    ensures { JumpsSafe tree.now.records.now cx.old cx.new r safe_label.0 }
+    ensures jumps { JumpsSafe tree.now.records.now cx.old cx.new r safe_label.0 }
+    ensures consts { cx.new.consts ≡ cx.old.consts }
 {
     if detail(tree.records, r) < detail::SAFE {
         return;

@@ -75,6 +75,17 @@ seen_inside cs v h = go (seen cs v) refl
     go true e = refl
     go false e = absurd (omega (arith, find_unseen cs v e))
 
+-- what is found is the value itself
+pub find_value : (cs : List Const) (d : Const) (v : Value) → seen cs v ≡ true → (get_or cs (find cs v) d).value ≡ v
+unfolding find seen
+find_value [] d v e = absurd (true≢false (sym e))
+find_value (c ∷ cs) d v e = go (same c.value v) refl e (λ q. find_value cs d v q)
+  where
+    go : (b : Bool) → same c.value v ≡ b → b || seen cs v ≡ true → (seen cs v ≡ true → (get_or cs (find cs v) d).value ≡ v)
+        → (get_or (c ∷ cs) (cond b 0 (suc (find cs v))) d).value ≡ v
+    go true q e ih = same_eq c.value v q
+    go false q e ih = ih e
+
 -- ---- one value more
 
 pub intern_old : (cs : List Const) (c : Const) → seen cs c.value ≡ true → intern cs c ≡ cs

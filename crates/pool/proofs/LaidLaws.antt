@@ -14,6 +14,12 @@ use mathlib.Core.Logic.{inr}
 use Rattle.pool.proofs.PutLaws.{put_length, put_other}
 use Rattle.pool.proofs.TableLaws.{below_other, put3_entry, words_const}
 
+pub laid_length : (ws : List ℕ) (n : ℕ) (cs : List Const) → length (laid ws n cs) ≡ length ws
+unfolding laid
+laid_length ws n [] = refl
+laid_length ws n (c ∷ cs) =
+    laid_length (put_const ws n c) (suc n) cs ∙ put_length ws n ((words_of c).kind ∷ (words_of c).low ∷ (words_of c).high ∷ [])
+
 -- words past the laid ones stay as they were
 pub laid_past : (ws : List ℕ) (n : ℕ) (cs : List Const) (x : ℕ) → (n + length cs) * 3 ≤ x → get_or (laid ws n cs) x 0 ≡ get_or ws x 0
 unfolding laid

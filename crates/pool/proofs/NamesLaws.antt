@@ -9,7 +9,8 @@ use native.Mathlib.Omega.{arith}
 use lib.ListN.{length, get_or, take, get_or-append, get_or-eq_default}
 use lib.Seq.{get_or_at, take-append-le, take_all}
 use lib.Dec.{ltb, leb, eqb}
-use borrow.Author.Tests.{ltb-true, ltb-false, leb-true, leb-false, eqb-true}
+use borrow.Author.Tests.{ltb-true, ltb-false, leb-true, leb-false, eq-eqb, eqb-true}
+use Rattle.std.proofs.lemmas.Bool.{cond-true}
 use Rattle.std.specs.Prelude.{Option, Some, None, option_map}
 use Rattle.tables.specs.Semantic.{symbol_of}
 use Rattle.tables.specs.declared.refusal.RunRule.TheVariants.{Reference, Store}
@@ -108,6 +109,17 @@ index_found (x ∷ xs) s = go (eqb x s) refl (index_of xs s) (index_found xs s)
     go true e p h = (omega arith, eqb-true x s e)
     go false e (Some i) h = (omega (arith, h.0), h.1)
     go false e None h = tt
+
+-- an element of the list is found, at the latest where it stands
+pub index_of_element : (xs : List ℕ) (s k : ℕ) → k < length xs → get_or xs k 0 ≡ s → (i : ℕ) × (index_of xs s ≡ Some i) × (i ≤ k)
+unfolding index_of
+index_of_element [] s k h e = absurd (omega arith)
+index_of_element (x ∷ xs) s zero h e = (0, cond-true _ _ _ (eq-eqb x s e), omega arith)
+index_of_element (x ∷ xs) s (suc k) h e = go (eqb x s) (index_of_element xs s k (omega arith) e)
+  where
+    go : (b : Bool) → ((i : ℕ) × (index_of xs s ≡ Some i) × (i ≤ k)) → (i : ℕ) × (cond b (Some 0) (option_map suc (index_of xs s)) ≡ Some i) × (i ≤ suc k)
+    go true w = (0, refl, omega arith)
+    go false w = (suc w.0, ap (option_map suc) w.1, omega (arith, w.2))
 
 -- an answer names a place inside its table
 abbrev pub InTable : Names → Access → Type 0

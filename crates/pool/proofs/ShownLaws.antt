@@ -1,7 +1,7 @@
 -- A function's names stamped: what is found in the slots is what its tables have. Assumes nothing.
 use mathlib.Core.Path.{◌≡◌, refl, sym, ap, subst, ◌∙◌}
 use mathlib.Core.List.{List}
-use Prim.Native.Nat.{ℕ, suc, ◌+◌, ◌*◌, ◌<◌}
+use Prim.Native.Nat.{ℕ, suc, ◌+◌, ◌*◌, ◌≤◌, ◌<◌}
 use native.Mathlib.Omega.{arith}
 use mathlib.Core.Bool.{true}
 use lib.ListN.{length, get_or, drop}
@@ -18,7 +18,7 @@ use Rattle.pool.specs.NameSteps.{symbols_at, stamped_names, Stands, Fits, parent
 use Rattle.pool.specs.declared.spans.Span.{Span}
 use Rattle.pool.specs.declared.names.Class.{Class}
 use Rattle.pool.proofs.EntryLaws.{symbols_read, locals_stand, globals_stand, upvalues_stand}
-use Rattle.pool.proofs.NameTables.{plains_symbols, plains_length}
+use Rattle.pool.proofs.NameTables.{symbols_length, plains_symbols, plains_length, chosen_most}
 use Rattle.pool.proofs.NameUpto.{share_fits, share_length}
 use Rattle.pool.proofs.NamesLaws.{Found, index_found, names_owned}
 use Rattle.pool.proofs.StampLaws.{stamps_length, stamps_owner, stamps_idents, stamps_inners, stamps_older, Older}
@@ -42,6 +42,9 @@ module _ (k : Table) (cl : ℕ → Class) (ss : List ℕ) where
   abbrev table : List ℕ
   table = upvalue_symbols (chosen k cl ss)
 
+  table_few : length ss ≤ SYMBOLS → length table ≤ SYMBOLS
+  table_few h = omega (arith, symbols_length (chosen k cl ss), chosen_most k cl ss)
+
   table_slotted : Slotted ss → Slotted table
   table_slotted u m p = (chosen_from k cl (λ x. x < SYMBOLS) ss u m p).1
 
@@ -59,7 +62,7 @@ apart k k' cl ss d s j e = go (index_of (table k' cl ss) s) refl
     go (Some i) q = absurd (d (sym (eqb-true _ _ (table_class k cl ss s j e)) ∙ eqb-true _ _ (table_class k' cl ss s i q)))
     go None q = refl
 
-module _ (cl : ℕ → Class) (ss : List ℕ) (slots : Slotted ss) (sc : Scope) (es : List ℕ) (a o : ℕ) (long : length sc.symbols ≡ SYMBOLS)
+module _ (cl : ℕ → Class) (ss : List ℕ) (few : length ss ≤ SYMBOLS) (slots : Slotted ss) (sc : Scope) (es : List ℕ) (a o : ℕ) (long : length sc.symbols ≡ SYMBOLS)
     (older : (s : ℕ) → Older o (get_or sc.symbols s None)) (stands : Stands es (a * 3) (words_of (entries_of (made cl ss)))) (sc' : Scope)
     (e : sc' ≡ stamped_names sc es (span_for a (made cl ss)) o) where
   abbrev xs : List ℕ
@@ -108,7 +111,7 @@ module _ (cl : ℕ → Class) (ss : List ℕ) (slots : Slotted ss) (sc : Scope) 
 
   pub stamped_locals : (s : ℕ) → index_in sc' Locals s ≡ index_of xs s
   stamped_locals s =
-      let p1 = found_own w0 Locals long xs (table_slotted Locals cl ss slots) s (fresh Locals s) in
+      let p1 = found_own w0 Locals long xs (table_few Locals cl ss few) (table_slotted Locals cl ss slots) s (fresh Locals s) in
       let p2 = found_kept w1 Globals l1 Locals 0 ys refl (table_slotted Globals cl ss slots) s (index_of xs s) p1
       (λ j q. apart Globals Locals cl ss (λ z. omega arith) s j q) in
       ap (λ (w : Scope). index_in w Locals s) is
@@ -118,7 +121,7 @@ module _ (cl : ℕ → Class) (ss : List ℕ) (slots : Slotted ss) (sc : Scope) 
   pub stamped_globals : (s : ℕ) → index_in sc' Globals s ≡ index_of ys s
   stamped_globals s =
       let p1 = found_kept w0 Locals long Globals 0 xs refl (table_slotted Locals cl ss slots) s None (fresh Globals s) (λ j q. refl) in
-      let p2 = found_own w1 Globals l1 ys (table_slotted Globals cl ss slots) s p1 in
+      let p2 = found_own w1 Globals l1 ys (table_few Globals cl ss few) (table_slotted Globals cl ss slots) s p1 in
       ap (λ (w : Scope). index_in w Globals s) is
       ∙ found_kept w2 Upvalues l2 Globals 0 zs refl (table_slotted Upvalues cl ss slots) s (index_of ys s) p2
       (λ j q. apart Upvalues Globals cl ss (λ z. omega arith) s j q)
@@ -128,7 +131,7 @@ module _ (cl : ℕ → Class) (ss : List ℕ) (slots : Slotted ss) (sc : Scope) 
       let p1 = found_kept w0 Locals long Upvalues 0 xs refl (table_slotted Locals cl ss slots) s None (fresh Upvalues s) (λ j q. refl) in
       let p2 = found_kept w1 Globals l1 Upvalues 0 ys refl (table_slotted Globals cl ss slots) s None p1 (λ j q. refl) in
       ap (λ (w : Scope). index_in w Upvalues s) is
-      ∙ found_own w2 Upvalues l2 zs (table_slotted Upvalues cl ss slots) s p2
+      ∙ found_own w2 Upvalues l2 zs (table_few Upvalues cl ss few) (table_slotted Upvalues cl ss slots) s p2
 
   pub stamped_older : (s : ℕ) → Older (suc o) (get_or sc'.symbols s None)
   stamped_older s =
@@ -158,6 +161,9 @@ pub record Turned (t : Semantic) (o : ℕ) (sc sc' : Scope) : Type 0 where
   pub long : length sc'.symbols ≡ SYMBOLS
 
 module _ (t : Semantic) (entries spans : ℕ) (fits : Fits t entries spans) (f : ℕ) (h : f < function_count t) where
+  share_few : length (share t f) ≤ SYMBOLS
+  share_few = omega (arith, share_length t fits.counted f h, share_fits t fits.counted f h, fits.members_limit)
+
   share_slotted : Slotted (share t f)
   share_slotted m p =
       let q : m < count_of_members t f = omega (arith, share_length t fits.counted f h) in
@@ -174,21 +180,21 @@ module _ (t : Semantic) (entries spans : ℕ) (fits : Fits t entries spans) (f :
       let st = subst (λ (m : Names). Stands es (start_of_share t f * 3) (words_of (entries_of m))) n stands in
       let eq : sc' ≡ stamped_names sc es (span_for (start_of_share t f) (made cl ss)) (suc f) =
       e ∙ ap (λ (x : Span). stamped_names sc es x (suc f)) (q ∙ ap (span_for (start_of_share t f)) n) in
-      let is : sc'.owner ≡ suc f = stamped_owner cl ss share_slotted sc es (start_of_share t f) (suc f) long older st sc' eq in
+      let is : sc'.owner ≡ suc f = stamped_owner cl ss share_few share_slotted sc es (start_of_share t f) (suc f) long older st sc' eq in
       let o : owner_of sc' ≡ suc f = omega (arith, fits.functions_limit) in
       let own : made cl ss ≡ owner_names t (owner_of sc') = sym (ap (owner_names t) o ∙ n) in
       record {
         shown =
             record {
-              locals = λ s. stamped_locals cl ss share_slotted sc es (start_of_share t f) (suc f) long older st sc' eq s ∙ ap (λ (m : Names). index_of m.locals s) own;
-              globals = λ s. stamped_globals cl ss share_slotted sc es (start_of_share t f) (suc f) long older st sc' eq s
+              locals = λ s. stamped_locals cl ss share_few share_slotted sc es (start_of_share t f) (suc f) long older st sc' eq s ∙ ap (λ (m : Names). index_of m.locals s) own;
+              globals = λ s. stamped_globals cl ss share_few share_slotted sc es (start_of_share t f) (suc f) long older st sc' eq s
                   ∙ ap (λ (m : Names). index_of m.globals s) own;
-              upvalues = λ s. stamped_upvalues cl ss share_slotted sc es (start_of_share t f) (suc f) long older st sc' eq s
+              upvalues = λ s. stamped_upvalues cl ss share_few share_slotted sc es (start_of_share t f) (suc f) long older st sc' eq s
                   ∙ ap (λ (m : Names). index_of (upvalue_symbols m.upvalues) s) own;
             };
         owner = o;
-        older = stamped_older cl ss share_slotted sc es (start_of_share t f) (suc f) long older st sc' eq;
-        idents = stamped_idents cl ss share_slotted sc es (start_of_share t f) (suc f) long older st sc' eq;
-        inners = stamped_inners cl ss share_slotted sc es (start_of_share t f) (suc f) long older st sc' eq;
-        long = stamped_long cl ss share_slotted sc es (start_of_share t f) (suc f) long older st sc' eq;
+        older = stamped_older cl ss share_few share_slotted sc es (start_of_share t f) (suc f) long older st sc' eq;
+        idents = stamped_idents cl ss share_few share_slotted sc es (start_of_share t f) (suc f) long older st sc' eq;
+        inners = stamped_inners cl ss share_few share_slotted sc es (start_of_share t f) (suc f) long older st sc' eq;
+        long = stamped_long cl ss share_few share_slotted sc es (start_of_share t f) (suc f) long older st sc' eq;
       }

@@ -1,9 +1,9 @@
 -- Names stamped into the slots: what a look-up finds there. Assumes nothing.
-use Rattle.std.proofs.lemmas.Bool.{cond-true, cond-false}
+use Rattle.std.proofs.lemmas.Bool.{cond-true, cond-false, cond_both}
 use mathlib.Core.Path.{◌≡◌, refl, sym, ap, ap₂, subst, ◌∙◌}
-use mathlib.Core.Bool.{Bool, true, false, cond}
+use mathlib.Core.Bool.{Bool, true, false, cond, ◌&&◌}
 use mathlib.Core.List.{List, [], ◌∷◌, ◌++◌}
-use Prim.Native.Nat.{ℕ, zero, suc, ◌+◌, ◌-◌, ◌*◌, ◌≤◌, ◌<◌}
+use Prim.Native.Nat.{ℕ, zero, suc, ◌+◌, ◌-◌, ◌*◌, ◌%◌, ◌≤◌, ◌<◌}
 use native.Mathlib.Omega.{arith}
 use native.Mathlib.Decide.{ℕ_discrete}
 use mathlib.Core.Logic.{◌⊎◌, inl, inr}
@@ -36,6 +36,19 @@ module _ (sc₀ : Scope) where
       let y : suc (n + (i - 1)) ≡ n + i = omega arith in
       let x : suc (i - 1) ≡ i = omega arith in
       r ∙ (ap₂ (λ (l : Scope) (s : ℕ). stamped l k s (i - 1)) e q ∙ rw (z, y, x))
+
+-- an index that is found is below the number of symbols, whatever the scope
+abbrev pub Below : Option ℕ → Type 0
+Below None = Unit {0}
+Below (Some i) = i < SYMBOLS
+
+pub index_below : (sc : Scope) (k : Table) (s : ℕ) → Below (index_in sc k s)
+unfolding index_in
+index_below sc k s = go (get_or sc.symbols s None)
+  where
+    go : (p : Option Stamp) → Below (index_at sc.owner k p)
+    go None = tt
+    go (Some x) = cond_both (eqb x.owner sc.owner && same_table x.table k) _ _ Below (λ _. omega arith) (λ _. tt)
 
 -- a stamp of an earlier owner, or none
 abbrev pub Older : ℕ → Option Stamp → Type 0
@@ -110,7 +123,7 @@ unfolding index_in
 looks_same sc us k s e q = rw (e, q)
 
 -- a stamp of the owner is found in its table, and in no other
-looks_stamped : (sc : Scope) (k k' : Table) (s i : ℕ) → get_or sc.symbols s None ≡ Some (stamp_of sc k i) → index_in sc k' s ≡ cond (same_table k k') (Some i) None
+looks_stamped : (sc : Scope) (k k' : Table) (s i : ℕ) → get_or sc.symbols s None ≡ Some (stamp_of sc k i) → index_in sc k' s ≡ cond (same_table k k') (Some (i % SYMBOLS)) None
 unfolding index_in
 looks_stamped sc k k' s i e = rw (e, eq-eqb sc.owner sc.owner refl)
 
@@ -124,7 +137,7 @@ module _ (sc : Scope) (k : Table) (long : length sc.symbols ≡ SYMBOLS) where
     abbrev us : Scope
     us = stamps sc k (suc i) ss
 
-    looks_here : (k' : Table) → index_in (stamped us k x i) k' x ≡ cond (same_table k k') (Some i) None
+    looks_here : (k' : Table) → index_in (stamped us k x i) k' x ≡ cond (same_table k k') (Some (i % SYMBOLS)) None
     unfolding stamped
     looks_here k' =
         looks_stamped (stamped us k x i) k k' x i (get_or-set_same us.symbols x (Some (stamp_of us k i)) None (omega (arith, stamps_length sc k (suc i) ss, long)))
@@ -134,15 +147,15 @@ module _ (sc : Scope) (k : Table) (long : length sc.symbols ≡ SYMBOLS) where
     looks_there k' s d = looks_same us (stamped us k x i) k' s (get_or-set_other us.symbols x s (Some (stamp_of us k i)) None (λ q. d (sym q))) refl
 
   -- in the stamped table: the first of the symbols
-  found_from : (i : ℕ) (ss : List ℕ) → Slotted ss → (s : ℕ) → index_in sc k s ≡ None → index_in (stamps sc k i ss) k s ≡ shift i (index_of ss s)
+  found_from : (i : ℕ) (ss : List ℕ) → i + length ss ≤ SYMBOLS → Slotted ss → (s : ℕ) → index_in sc k s ≡ None → index_in (stamps sc k i ss) k s ≡ shift i (index_of ss s)
   unfolding stamps index_of
-  found_from i [] u s e = e
-  found_from i (x ∷ ss) u s e = go (ℕ_discrete x s) (found_from (suc i) ss (λ m p. u (suc m) (omega arith)) s e)
+  found_from i [] h u s e = e
+  found_from i (x ∷ ss) h u s e = go (ℕ_discrete x s) (found_from (suc i) ss (omega arith) (λ m p. u (suc m) (omega arith)) s e)
     where
       go : Dec (x ≡ s) → index_in (stamps sc k (suc i) ss) k s ≡ shift (suc i) (index_of ss s)
           → index_in (stamped (stamps sc k (suc i) ss) k x i) k s ≡ shift i (cond (eqb x s) (Some 0) (option_map suc (index_of ss s)))
       go (yes q) ih =
-          let z : i + 0 ≡ i = omega arith in
+          let z : i + 0 ≡ i % SYMBOLS = omega arith in
           subst (λ (y : ℕ). index_in (stamped (stamps sc k (suc i) ss) k x i) k y ≡ shift i (cond (eqb x y) (Some 0) (option_map suc (index_of ss y)))) q
           (looks_here i x ss (u 0 (omega arith)) k ∙ (cond-true _ _ _ (eq-eqb (table_number k) (table_number k) refl)
           ∙ (ap Some (sym z) ∙ ap (shift i) (sym (cond-true _ _ _ (eq-eqb x x refl))))))
@@ -150,8 +163,8 @@ module _ (sc : Scope) (k : Table) (long : length sc.symbols ≡ SYMBOLS) where
           looks_there i x ss (u 0 (omega arith)) k s d
           ∙ (ih ∙ (shift_later i (index_of ss s) ∙ ap (shift i) (sym (cond-false _ _ _ (ne_eqb x s d)))))
 
-  pub found_own : (ss : List ℕ) → Slotted ss → (s : ℕ) → index_in sc k s ≡ None → index_in (stamps sc k 0 ss) k s ≡ index_of ss s
-  found_own ss u s e = found_from 0 ss u s e ∙ shift_none (index_of ss s)
+  pub found_own : (ss : List ℕ) → length ss ≤ SYMBOLS → Slotted ss → (s : ℕ) → index_in sc k s ≡ None → index_in (stamps sc k 0 ss) k s ≡ index_of ss s
+  found_own ss h u s e = found_from 0 ss (omega arith) u s e ∙ shift_none (index_of ss s)
 
   -- in another table: as before, if the symbol was in none of both
   pub found_kept : (k' : Table) (i : ℕ) (ss : List ℕ) → same_table k k' ≡ false → Slotted ss → (s : ℕ) (p : Option ℕ) → index_in sc k' s ≡ p

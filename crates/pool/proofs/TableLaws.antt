@@ -7,7 +7,7 @@ use native.Mathlib.Omega.{arith}
 use native.Mathlib.Decide.{ℕ_discrete}
 use lib.ListN.{length, length-append}
 use borrow.Author.Tests.{leb-true, eq-eqb, ne_eqb}
-use Rattle.pool.specs.Value.{plain, Const, effect_at, seen, intern, found}
+use Rattle.pool.specs.Value.{plain, Const, effect_at, seen, intern, start, found}
 use Rattle.std.specs.Prelude.{Some, None}
 use Rattle.pool.specs.Consts.{made, words, words_of, const_of, at, entry, entries, table, room, put3, written}
 use mathlib.Core.Logic.{inl}
@@ -87,6 +87,11 @@ module _ (recs : List ℕ) where
             let i = intern_new (table recs ws n) c s in
             let z : length (table recs ws n ++ (c ∷ [])) ≡ suc n = length-append (table recs ws n) (c ∷ []) ∙ omega (arith, table_length ws n) in
             ap₂ (table recs) (written_new s) (ap length i ∙ z) ∙ table_put ws n k l h r ∙ sym i
+
+  -- "Constants start with Null"
+  pub table_start : (ws : List ℕ) → room ws 0 ≡ true → table recs (put3 ws 0 0 0 0) 1 ≡ start
+  unfolding entries const_of
+  table_start ws r = table_put ws 0 0 0 0 r
 
   -- the words of a constant of three words are these words, an Effect's high word being 0
   pub words_const : (k l h : ℕ) → (k ≡ 7 → h ≡ 0) → words_of (const_of recs k l h) ≡ words k l h

@@ -25,10 +25,10 @@ no_scope = record { owner = 0; symbols = replicate SYMBOLS None; idents = no_cha
 abbrev pub owner_of : Scope → ℕ
 owner_of sc = sc.owner % OWNERS
 
--- the index that a stamp has, if it is of that owner's table
+-- the index that a stamp has, which is below 1,024, if it is of that owner's table
 abbrev pub index_at : ℕ → Table → Option Stamp → Option ℕ
 index_at o k None = None
-index_at o k (Some x) = cond (eqb x.owner o && same_table x.table k) (Some x.index) None
+index_at o k (Some x) = cond (eqb x.owner o && same_table x.table k) (Some (x.index % SYMBOLS)) None
 
 -- a symbol without a stamp of the owner's table is not in it
 unfoldable pub index_in : Scope → Table → ℕ → Option ℕ

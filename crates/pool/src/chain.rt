@@ -5,7 +5,7 @@ ghost use Rattle.pool.specs.Chain.{first_of, next_of, chained};
 
 pub const OWNERS: usize = 257;
 
-#[derive(Drop)]
+#[derive(Clone, Copy)]
 pub struct Chain<const N: usize> {
     pub heads: [u16; OWNERS],
     pub nexts: [u16; N],

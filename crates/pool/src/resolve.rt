@@ -170,7 +170,7 @@ pub fn resolve(tables: &Tables, entries: &mut [u32], spans: &mut [Span], notes: 
         entries.old spans.old notes.old entries.new spans.new notes.new }
 {
     if fits(tables, entries.len(), spans.len()) {
-        // made in its place, since a function that answers one would copy it
+        // a blank one, made in its place, since a function that answers one would copy it
         let mut scope = Scope {
             owner: 0,
             symbols: [None; SYMBOLS],

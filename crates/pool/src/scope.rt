@@ -1,9 +1,9 @@
 // What the making of the names and notes works with: the function whose names are stamped, for each symbol where it was stamped last, and as chains the
 // Idents of each function and the functions inside each.
 ghost use Rattle.std.specs.Prelude.{◌≡◌};
-ghost use Rattle.pool.specs.Scope.{index_in, stamped};
+ghost use Rattle.pool.specs.Scope.{no_scope, index_in, stamped};
 
-use crate::chain::Chain;
+use crate::chain::{Chain, OWNERS};
 
 pub const SYMBOLS: usize = 1024;
 
@@ -23,7 +23,7 @@ pub struct Stamp {
     pub index: u16,
 }
 
-#[derive(Drop)]
+#[derive(Clone, Copy)]
 pub struct Scope {
     pub owner: u16,
     pub symbols: [Option<Stamp>; SYMBOLS],
@@ -32,14 +32,32 @@ pub struct Scope {
 }
 
 impl Scope {
-    // The place of a symbol in a table of the current owner.
+    // No owner, no symbol that is stamped, and no item in a chain.
+    pub fn blank() -> Self
+        ensures { result ≡ no_scope }
+    {
+        Scope {
+            owner: 0,
+            symbols: [None; SYMBOLS],
+            idents: Chain {
+                heads: [0; OWNERS],
+                nexts: [0; 4096],
+            },
+            inners: Chain {
+                heads: [0; OWNERS],
+                nexts: [0; 257],
+            },
+        }
+    }
+
+    // The place of a symbol in a table of the current owner, below 1,024 whatever is stamped.
     #[tactic(auto, unfolding(crate::specs::Scope::index_in))]
     pub fn index_of(&self, table: Table, symbol: u32) -> Option<u32>
         ensures { result ≡ index_in self.now table symbol }
     {
         match self.symbols.get(symbol as usize) {
             Some(Some(stamp)) if stamp.owner == self.owner && stamp.table == table => {
-                Some(u32::from(stamp.index))
+                Some(u32::from(stamp.index % 1024))
             }
             _ => None,
         }

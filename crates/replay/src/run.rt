@@ -2,30 +2,26 @@
 use crate::case::{Case, Cases};
 use crate::input::read;
 use crate::print::unreadable;
-use std::io;
+use tables::slices::front;
+
+// More words are no input.
+const MOST: usize = 458752;
 
 // A program, by what it shows of a case.
 pub trait Show {
-    fn show<R: Print + AllocGlobal>(&self, rt: &R, case: Case) -> io::Result<()>;
+    fn show<R: Print>(&self, rt: &R, case: Case);
 }
 
-// The cases of the input by so many numbers each, with `between` before each but the first.
-pub fn each_case<R, S>(rt: &R, numbers: usize, between: &str, program: &S) -> io::Result<()>
-where
-    R: Input + Print + AllocGlobal,
-    S: Show,
-{
-    let Some(words) = read(rt)? else {
+// The cases of the input by so many numbers each.
+pub fn each_case<R: Print, S: Show>(rt: &R, numbers: usize, program: &S) {
+    let mut words = [0u32; MOST];
+    let Some(count) = read(&mut words) else {
         return unreadable(rt);
     };
-    for (turn, found) in Cases::new(&words, numbers).enumerate() {
-        if 0 < turn {
-            print!(rt; "{between}")?;
-        }
+    for found in Cases::new(front(&words, count), numbers) {
         match found {
-            Some(case) => program.show(rt, case)?,
-            None => unreadable(rt)?,
+            Some(case) => program.show(rt, case),
+            None => unreadable(rt),
         }
     }
-    Ok(())
 }

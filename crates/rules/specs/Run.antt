@@ -34,7 +34,7 @@ use Rattle.rules.specs.Arms.{stream_steps}
 use Rattle.rules.specs.Kinds.{steps}
 use Rattle.rules.specs.declared.StackCode.{StackCode}
 use Rattle.rules.specs.declared.error.ErrorKind.{ErrorKind}
-use Rattle.rules.specs.declared.error.ErrorKind.TheVariants.{BreakOutsideLoop, ContinueOutsideLoop, ReturnOutsideFunction}
+use Rattle.rules.specs.declared.error.ErrorKind.TheVariants.{BreakOutsideLoop, ContinueOutsideLoop, ReturnOutsideFunction, Other}
 use Rattle.rules.specs.declared.Flow.{Flow}
 use Rattle.rules.specs.declared.Flow.TheVariants.{Go, Cut, Refused}
 
@@ -43,6 +43,7 @@ abbrev pub error_number : ErrorKind → ℕ
 error_number BreakOutsideLoop = 0
 error_number ContinueOutsideLoop = 1
 error_number ReturnOutsideFunction = 2
+error_number (Other n) = n
 
 -- an error: the number of its kind, start and end
 pub data Error : Type 0 where

@@ -127,3 +127,7 @@ levels_few recs s e =
       levels_within (size recs) 128 (root recs) 0 (omega arith) (root_under recs s) (λ x h. ltb-false 128 (level recs x) (holds (λ y. ltb 128
           (level recs y)) (size recs) e x h)),
     )
+
+-- a record on level 129 or deeper: the tree has more than 128 levels
+pub levels_many : (recs : List ℕ) (x : ℕ) → 128 < level recs x → 128 < levels (root recs)
+levels_many recs x h = omega (arith, level_within x (root recs) 0)

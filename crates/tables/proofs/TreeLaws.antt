@@ -158,6 +158,10 @@ module _ (recs : List ℕ) where
   pub root_under : 0 < size recs → Under (size recs) (root recs)
   root_under h = (h, children_under 0, tt)
 
+  pub after_less : (a b : ℕ) → a ≤ b → (f : Forest) → After b f → After a f
+  after_less a b h none p = tt
+  after_less a b h (tree r w k s) (p, q, t) = (omega arith, after_less a b h k q, after_less a b h s t)
+
   -- a link and all that it leads to lie after the record that has it
   pub after : (r l : ℕ) → Onward recs r l → After r (forest recs l)
   after r l o = grown recs (λ f. (q : ℕ) → ((head f ≡ 0) ⊎ (q < head f)) → After q f) (λ q e. tt)
@@ -179,6 +183,10 @@ module _ (recs : List ℕ) where
       begin : Onward recs r l → (l ≡ 0) ⊎ (r < l)
       begin (inl e) = inl e
       begin (inr (a, b)) = inr a
+
+  -- every child, and all below it, lies after its parent
+  pub children_after : (r : ℕ) → After r (children recs r)
+  children_after r = after r (first recs r) (first_onward recs r)
 
   never_zero : (l : ℕ) → occurs 0 (forest recs l) ≡ 0
   unfolding over

@@ -164,6 +164,9 @@ node_length e r w k =
       tally_part k,
     )
 
+pub inside_length : (e : ℕ) (k : Forest) (m : Manner) → length (inside m (λ i. visited i e k)) ≡ tally k
+inside_length e k m = omega (arith, weigh_length (inside m (λ i. visited i e k)), weigh_inside (λ x. 1) e k (weights (λ x. 1) k e) m, tally_part k)
+
 -- a list lies in F after m entries
 pub record Spot (F : List Visit) (m : ℕ) (xs : List Visit) : Type 0 where
   pub pre : List Visit

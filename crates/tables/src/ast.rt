@@ -25,10 +25,17 @@ fn word(recs: &[u32], r: usize, k: usize) -> u32
     }
 }
 
+// The word itself, also of no kind.
+pub fn kind_word(recs: &[u32], r: usize) -> u32
+    ensures { result ≡ word_of recs.now r 0 }
+{
+    word(recs, r, 0)
+}
+
 pub fn kind(recs: &[u32], r: usize) -> Kind
     ensures { result ≡ kind_of (word_of recs.now r 0) }
 {
-    Kind::from(word(recs, r, 0))
+    Kind::from(kind_word(recs, r))
 }
 
 pub fn detail(recs: &[u32], r: usize) -> u32

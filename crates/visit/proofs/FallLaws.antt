@@ -97,6 +97,10 @@ falls_to n r x j k t e lt l =
 pub falls_child : (n r x j k t : ℕ) → level n r (suc k) ≡ t → j < 16 → Linked n r x → (x ≡ 0 → ⊥) → level n x j < t
 falls_child n r x j k t e lt l ne = omega (arith, falls_to n r x j k t e lt l, level_some n x j ne)
 
+-- at the same record the rank falls
+pub falls_rank : (n r j k t : ℕ) → level_or n r k ≡ t → (r ≡ 0 → ⊥) → j < k → level n r j < t
+falls_rank n r j k t e ne lt = omega (arith, level_some n r k ne)
+
 -- the measures of a record's first child, of a sibling's next and of the one n further, as the goals of calls need them
 pub first_falls : (recs : List ℕ) (r j : ℕ) → j < 16 → level_or (size recs) (first recs r) j ≤ (size recs - r) * 16
 first_falls recs r j lt =

@@ -355,8 +355,8 @@ call-returns t c =
           c.next-arguments.ensures c.first-callee.ensures)) (next_of c.args.tree.now.records.now c.next-arguments.ensures c.first-callee.ensures) c.all.ensures h1 in
           let l = label c.get_label-end_label.ensures h2 in
           let h3 = labelled c.get_label-end_label.ensures h2 in
-          let k = c.registers-handler_label.ensures.label ∙ h3.labels in
-          let h4 = (c.registers-handler_label.ensures.moves c.args.r).moves v o₀ _ h3 in
+          let k = c.registers-handler_label.ensures.registers.label ∙ h3.labels in
+          let h4 = (c.registers-handler_label.ensures.registers.moves c.args.r).moves v o₀ _ h3 in
           let h5 = said c.args.r Call _ refl (c.argument_count-argument_count.ensures ∙ ap₂ (λ (x y : ℕ). cap (argument_count c.args.tree.now.records.now x y))
           c.first-callee.ensures (c.arguments_len-n.ensures ∙ ap (λ (x : ℕ). arguments (own_tree (forest c.args.tree.now.records.now x))) (next_of c.args.tree.now.records.now
           c.next-arguments.ensures c.first-callee.ensures))) (sent _ c.push_code.ensures.1 c.push_code.ensures.2) h4 in
@@ -402,7 +402,7 @@ called-returns t c =
           let t = label_test (word c.args.tree.now.records.now c.args.callee 1) h1 c.is_unlabelled.ensures in
           let l = label c.get_label-safe_label.ensures h1 in
           let h2 = labelled c.get_label-safe_label.ensures h1 in
-          let h3 = (c.push_safe_jump.ensures.moves _ l).moves v o₀ _ h2 in
+          let h3 = (c.push_safe_jump.ensures.jumps.moves _ l).moves v o₀ _ h2 in
           let k = said c.args.callee Copy 1 refl refl (sent _ c.push_code-2.ensures.1 c.push_code-2.ensures.2) h3 in
           let p = propped z c.args.callee (word c.args.tree.now.records.now c.args.callee 1 % 8) c.property_of-property.ensures c.prop-2.ensures k in
           let g = got c.args.callee (word c.args.tree.now.records.now c.args.callee 1 % 8) c.property_of-property.ensures c.push_get-2.ensures p in
@@ -721,7 +721,7 @@ import-returns-in-Simple t c =
     record {
       sim = λ z v o₀ A h.
           let h1 = str_loaded c.args.r Import (word c.args.tree.now.records.now c.args.r 3) c.q.ensures c.push_import.ensures h in
-          let h2 = c.simple.ensures.sim z v o₀ _ h1 in
+          let h2 = c.simple.ensures.steps.sim z v o₀ _ h1 in
           given (either_yes (lent c.args.tree.now) v c.args.r _ _ _ _
           (one_stored (word c.args.tree.now.records.now c.args.r 1) _ true c.import_kind.ensures (⊎_elim (λ e. ap stores_one e) (λ e. ap stores_one e) c.in-Simple.is))
           ∙ simple_part (lent c.args.tree.now) v c.args.r (word c.args.tree.now.records.now
@@ -802,7 +802,7 @@ member-returns t c =
           let t = label_test (word c.args.tree.now.records.now c.args.r 1) h1 c.is_unlabelled.ensures in
           let l = label c.get_label-safe_label.ensures h1 in
           let h2 = labelled c.get_label-safe_label.ensures h1 in
-          let h3 = (c.push_safe_jump.ensures.moves _ l).moves v o₀ _ h2 in
+          let h3 = (c.push_safe_jump.ensures.jumps.moves _ l).moves v o₀ _ h2 in
           let p = propped z c.args.r (word c.args.tree.now.records.now c.args.r 1 % 8) c.property_of-property.ensures c.prop-2.ensures h3 in
           let g = got c.args.r (word c.args.tree.now.records.now c.args.r 1 % 8) c.property_of-property.ensures c.push_get-2.ensures p in
           let q = g in
@@ -931,7 +931,7 @@ rest-returns-else-eq t c =
 pub rest-returns-in-Params : goal.rest-returns-in-Params
 rest-returns-in-Params t c =
     resim (λ v z A. last_by (lent c.args.tree.now) v c.args.r (numbered _ _ kind.Params c.kind.ensures c.in-Params.is tt) A)
-    c.params.ensures
+    c.params.ensures.steps
 
 pub rest-returns-in-Handler : goal.rest-returns-in-Handler
 rest-returns-in-Handler t c =
@@ -978,7 +978,7 @@ ret-returns-then-is_tail t c =
     record {
       sim = λ z v o₀ A h.
           let h1 = bar_no (words c.args.tree.now.records.now c.args.r) c.is_in_do.ensures h c.if-is_in_do.false in
-          let h2 = (c.push_return_label.ensures _ c.args.r).moves v o₀ _ h1 in
+          let h2 = (c.push_return_label.ensures.moves _ c.args.r).moves v o₀ _ h1 in
           let h3 = visited z Tail c.first-argument.ensures (resim (λ v z A. tail_visit (lent c.args.tree.now) v _ (tail_call c.args.tree.now.records.now _ (sym
           c.is_tail.ensures ∙ c.if-is_tail.true)).0 (tail_call c.args.tree.now.records.now _ (sym c.is_tail.ensures ∙ c.if-is_tail.true)).1 A) c.call.ensures) h2 in
           given (ret_tail (lent c.args.tree.now) v c.args.r (ap (λ (x : ℕ). is_tail (own_tree (forest c.args.tree.now.records.now x))) (sym
@@ -990,7 +990,7 @@ ret-returns t c =
     record {
       sim = λ z v o₀ A h.
           let h1 = bar_no (words c.args.tree.now.records.now c.args.r) c.is_in_do.ensures h c.if-is_in_do.false in
-          let h2 = (c.push_return_label.ensures _ c.args.r).moves v o₀ _ h1 in
+          let h2 = (c.push_return_label.ensures.moves _ c.args.r).moves v o₀ _ h1 in
           let h3 = visited z Expr c.first-argument.ensures c.expr.ensures h2 in
           let h4 = said c.args.r Return 0 refl refl (sent _ c.push_code.ensures.1 c.push_code.ensures.2) h3 in
           given (ret_plain (lent c.args.tree.now) v c.args.r (ap (λ (x : ℕ). is_tail (own_tree (forest c.args.tree.now.records.now x))) (sym
@@ -1021,7 +1021,7 @@ short-returns t c =
           let h3 = jumped c.args.r (short_jump c.args.operator) _ refl l c.push_short_jump.ensures h2 in
           let h4 = visited z Expr (next_of c.args.tree.now.records.now c.next-right.ensures c.first-left.ensures) c.expr.ensures h3 in
           let h5 = placed c.args.r _ refl l c.push_label.ensures h4 in
-          let h6 = visited z After c.first-left.ensures c.after.ensures h5 in
+          let h6 = visited z After c.first-left.ensures c.after.ensures.visits h5 in
           nulled c.args.r c.push_null.ensures h6;
     }
 
@@ -1090,7 +1090,7 @@ unpack-returns t c =
     record {
       sim = λ z v o₀ A h.
           let h1 = visited z Expr (c.nth-right.ensures ∙ ap₂ (nth c.args.tree.now.records.now) c.p-n.ensures c.first-left.ensures) c.expr.ensures h in
-          let h2 = (c.copies.ensures _ c.args.r).moves v o₀ _ h1 in
+          let h2 = (c.copies.ensures.moves _ c.args.r).moves v o₀ _ h1 in
           let h3 = (unpacking_end (lent c.args.tree.now) c.args.r _ c.loop-i.invariant c.loop-i-test.false).sim z v o₀ _ h2
           in
           given (unpack_run (lent c.args.tree.now) v c.args.r c.p-n.ensures A) (nulled c.args.r c.push_null.ensures h3);
@@ -1110,7 +1110,7 @@ update-returns t c =
           let h1 = visited z Before c.first-left.ensures c.fetch.ensures h in
           let h2 = visited z Expr (next_of c.args.tree.now.records.now c.next-right.ensures c.first-left.ensures) c.expr.ensures h1 in
           let h3 = operated (word c.args.tree.now.records.now c.args.r 1) c.binary_operator-operator.ensures c.args.r c.push_binary.ensures h2 in
-          let h4 = visited z After c.first-left.ensures c.after.ensures h3 in
+          let h4 = visited z After c.first-left.ensures c.after.ensures.visits h3 in
           given (update_run (lent c.args.tree.now) v c.args.r (sym (short_assign_lem (word c.args.tree.now.records.now c.args.r 1)
           c.binary_operator-operator.ensures (own_tree (children c.args.tree.now.records.now c.args.r))) ∙ ap (λ (x : ℕ). short_assign c.binary_operator-operator.result
           (own_tree (forest c.args.tree.now.records.now x))) (sym c.first-left.ensures) ∙ sym c.is_short_assign.ensures ∙ c.if-is_short_assign.false) A) (nulled c.args.r

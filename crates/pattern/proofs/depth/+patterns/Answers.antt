@@ -74,7 +74,7 @@ visit_pattern_depth-list-requires t c =
 pub visit_pattern_depth-returns-in-IdentPattern : goal.visit_pattern_depth-returns-in-IdentPattern
 visit_pattern_depth-returns-in-IdentPattern t c =
     visit_ident c.args.tree.now.records.now c.args.tree.now.notes.now c.if-pattern-eq0.false c.label-next_pattern_label.ensures
-    (numbered _ _ kind.IdentPattern c.kind.ensures c.in-IdentPattern.is tt) c.ident.ensures
+    (numbered _ _ kind.IdentPattern c.kind.ensures c.in-IdentPattern.is tt) c.ident.ensures.tests
 
 pub visit_pattern_depth-returns-in_default : goal.visit_pattern_depth-returns-in_default
 visit_pattern_depth-returns-in_default t c =

@@ -1,4 +1,5 @@
 use Rattle.context.proofs.MarkLaws.{sent, said}
+use Rattle.context.proofs.StayLaws.{push_stays}
 use Rattle.context.proofs.RepLaws.{given}
 use Rattle.plain.proofs.OperatorLaws.{push_as}
 use Rattle.opcode.specs.Members.{member_number}
@@ -10,8 +11,8 @@ use mathlib.Core.Bool.{Bool, cond}
 use mathlib.Core.Path.{◌∙◌, ap, refl, sym}
 use Rattle.plain.proofs.assign.set_member.Goals as goal
 
-pub returns-then-is_meta : goal.returns-then-is_meta
-returns-then-is_meta c =
+pub returns-then-is_meta-clause-moves : goal.returns-then-is_meta-clause-moves
+returns-then-is_meta-clause-moves c =
     λ recs r. record {
       moves = λ m o₀ A h.
           let h1 = said r Swap 2 refl refl (sent _ c.push_code.ensures.1 c.push_code.ensures.2) h in
@@ -20,8 +21,14 @@ returns-then-is_meta c =
           c.push_set.ensures) h1);
     }
 
-pub returns : goal.returns
-returns c =
+pub returns-then-is_meta-clause-consts : goal.returns-then-is_meta-clause-consts
+returns-then-is_meta-clause-consts c = push_stays _ _ c.push_set.ensures ∙ push_stays _ _ c.push_code.ensures.2
+
+pub returns-clause-consts : goal.returns-clause-consts
+returns-clause-consts c = push_stays _ _ c.push_set-2.ensures ∙ push_stays _ _ c.push_code-3.ensures.2 ∙ push_stays _ _ c.push_code-2.ensures.2
+
+pub returns-clause-moves : goal.returns-clause-moves
+returns-clause-moves c =
     λ recs r. record {
       moves = λ m o₀ A h.
           let h1 = said r Swap 3 refl refl (sent _ c.push_code-2.ensures.1 c.push_code-2.ensures.2) h in

@@ -12,7 +12,10 @@ loop-preserved c =
     let lt = c.loop-test.true in
     down_again (lent c.args.tree.now) c.args.r c.loop.invariant (omega arith) (omega arith) c.store.ensures c.earlier-param.ensures
 
-pub returns : goal.returns
-returns c =
+pub returns-clause-consts : goal.returns-clause-consts
+returns-clause-consts c = c.loop.invariant.consts
+
+pub returns-clause-steps : goal.returns-clause-steps
+returns-clause-steps c =
     let le = c.loop-test.false in
     down_end (lent c.args.tree.now) c.args.r c.loop.invariant (omega arith)

@@ -1,5 +1,6 @@
 use Rattle.context.proofs.MarkLaws.{sent, jumped, placed}
 use Rattle.context.proofs.RepLaws.{given, label, labelled}
+use Rattle.context.proofs.StayLaws.{push_stays, take_stays}
 use Rattle.plain.specs.Runs.{return_run}
 use Rattle.rules.specs.Marker.{Jump}
 use Rattle.rules.specs.declared.StackCode.{StackCode}
@@ -9,8 +10,11 @@ use denote.Enum.Bare.{same_true}
 use mathlib.Core.Path.{◌∙◌, ap, refl, sym}
 use Rattle.plain.proofs.leaf.push_return_label.Goals as goal
 
-pub returns-then-eq : goal.returns-then-eq
-returns-then-eq c =
+pub returns-then-eq-clause-consts : goal.returns-then-eq-clause-consts
+returns-then-eq-clause-consts c = push_stays _ _ c.push_label.ensures ∙ push_stays _ _ c.push_code.ensures.2 ∙ take_stays c.get_label-return_label.ensures
+
+pub returns-then-eq-clause-moves : goal.returns-then-eq-clause-moves
+returns-then-eq-clause-moves c =
     λ recs r. record {
       moves = λ m o₀ A h.
           let l = label c.get_label-return_label.ensures h in

@@ -1,18 +1,22 @@
 use Prim.Native.Nat.{ℕ}
 use Rattle.context.proofs.MarkLaws.{sent, jumped}
 use Rattle.context.proofs.RepLaws.{given, label, labelled}
+use Rattle.context.proofs.StayLaws.{push_stays, take_stays, use_stays}
 use Rattle.context.specs.Rep.{lent}
 use Rattle.plain.proofs.LeafLaws.{used_at}
 use Rattle.plain.specs.Runs.{register, use_at}
 use Rattle.rules.specs.Marker.{RegisterHandler, To, mark}
 use Rattle.rules.specs.Run.{bump, emit, labels}
 use Rattle.rules.specs.Step.{Get}
-use mathlib.Core.Path.{ap, refl, sym}
+use mathlib.Core.Path.{◌∙◌, ap, refl, sym}
 use Rattle.plain.proofs.leaf.register.Goals as goal
 
-pub returns : goal.returns
+pub returns-clause-consts : goal.returns-clause-consts
+returns-clause-consts c = push_stays _ _ c.push_code.ensures.2 ∙ use_stays Get _ _ _ c.load.ensures ∙ take_stays c.get_label-handler_label.ensures
+
+pub returns-clause-moves : goal.returns-clause-moves
 unfolding register
-returns c =
+returns-clause-moves c =
     λ r. record {
       moves = λ m o₀ A h.
           let l = label c.get_label-handler_label.ensures h in

@@ -10,8 +10,12 @@ loop-handler-smaller c =
 
 pub loop-handler-preserved : goal.loop-handler-preserved
 loop-handler-preserved c =
-    registering_again (lent c.args.tree.now) c.loop-handler.invariant c.loop-handler-test.true c.next-handler.ensures c.register.ensures
+    registering_again (lent c.args.tree.now) c.loop-handler.invariant c.loop-handler-test.true c.next-handler.ensures c.register.ensures.moves
+    c.register.ensures.consts
 
-pub returns : goal.returns
-returns c =
+pub returns-clause-consts : goal.returns-clause-consts
+returns-clause-consts c = c.loop-handler.invariant.consts
+
+pub returns-clause-registers : goal.returns-clause-registers
+returns-clause-registers c =
     registering_end (lent c.args.tree.now) c.loop-handler.invariant c.loop-handler-test.false c.coming_label-first_label.ensures
