@@ -44,7 +44,7 @@ fn show(rt: &impl Print, out: &[u32], count: usize) {
     keep(rt, rest(out, count));
 }
 
-// The words of the five outputs after a call.
+// What was lent for the five outputs, after a call.
 #[derive(Clone, Copy)]
 struct Space<'a> {
     markers: &'a [u32],
@@ -123,11 +123,11 @@ fn with_outputs<'a>(rt: &impl Print, case: Case<'a>, bytes: &'a [u8]) {
     };
     let given = gen_code(&tables, &mut outputs);
     let out = Space {
-        markers: &markers,
-        constants: &constants,
-        names: &names,
-        errors: &errors,
-        lines: &lines,
+        markers: &markers[..room(case, 7, 9216)],
+        constants: &constants[..room(case, 8, 2048)],
+        names: &names[..room(case, 9, 512)],
+        errors: &errors[..room(case, 10, 512)],
+        lines: &lines[..room(case, 11, 2048)],
     };
     answer(rt, out, given);
 }

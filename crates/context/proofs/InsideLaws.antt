@@ -22,6 +22,7 @@ use Rattle.context.specs.declared.function.Outer.{Outer}
 use Rattle.context.proofs.Basics.{clash, shape, no_nested}
 use Rattle.context.proofs.RepLaws.{given, stands, went, stood, halted}
 use Rattle.context.proofs.MarkLaws.{settled}
+use Rattle.context.proofs.SizeLaws.{stopped_sizes, kept_sizes, inside_sizes, back_sizes}
 
 -- ---- a run begins: no marker, no label, no loop, no error
 
@@ -58,6 +59,7 @@ module _ (e : Lent) (v : Walk → State → State) {x : Context} where
     sim = λ z c x₀ A h.
         let q : A ≡ st (marks A) (labels A) (loops A) (opened A) Go (side A) = shape A (went h g) in
         given (ap (kept (v c)) q ∙ ap (λ (B : State). settle (v c B)) (sym q)) (settled b (a.sim z c x₀ A h));
+    sizes = kept_sizes _ b ∙ a.sizes;
   }
 
 -- ---- the function at record r, whose words are p and whose stream is v
@@ -77,10 +79,10 @@ module _ (e : Lent) (r : ℕ) (p : Words) (v : Walk → State → State) where
 
   pub inside_none : {x : Context} → x.nest ≡ false → Inside x x
   unfolding nested
-  inside_none n = record { sim = λ z c x₀ A h. given (ap (λ (b : Bool). nested b r p (v (within r c)) A) (sym h.nest ∙ n)) h }
+  inside_none n = record { sim = λ z c x₀ A h. given (ap (λ (b : Bool). nested b r p (v (within r c)) A) (sym h.nest ∙ n)) h; sizes = refl }
 
   pub inside_still : {x : Context} → goes x ≡ false → Inside x x
-  inside_still n = record { sim = λ z c x₀ A h. given (no_nested c.nest r p (v (within r c)) A (stood h n)) h }
+  inside_still n = record { sim = λ z c x₀ A h. given (no_nested c.nest r p (v (within r c)) A (stood h n)) h; sizes = refl }
 
   module _ {x : Context} {b : Bool} (n : x.nest ≡ true) (g : goes x ≡ true) (d : (m : ℕ) → x.functions ≡ min m most → b ≡ eqb p.p m) where
     nest_now : {c : Walk} {x₀ : Context} {A : State} {q : Bool} → Rep c e.records x₀ A x → b ≡ q → (f : State → State)
@@ -95,6 +97,7 @@ module _ (e : Lent) (r : ℕ) (p : Words) (v : Walk → State → State) where
     inside_skipped y k = record {
       sim = λ z c x₀ A h.
           given (nest_now h y (v (within r c)) ∙ sym (ap (halt (Refused Skipped r)) (shape A (went h g)))) (halted (Refused Skipped r) k h);
+      sizes = stopped_sizes _ _ k;
     }
 
     -- the code's calls: begin_function, the stream, keep_error, end_function
@@ -121,6 +124,7 @@ module _ (e : Lent) (r : ℕ) (p : Words) (v : Walk → State → State) where
             stack = h.stack;
           } in
           given (nest_now h y (v (within r c))) (stands (q ∙ ap (λ (u : Outer). back_to u x₃) j) (left c m h (settled k (a.sim z (within r c) x₀ (anew (side A)) (stands i hB)))));
+      sizes = back_sizes _ _ q ∙ kept_sizes _ k ∙ a.sizes ∙ inside_sizes _ _ i;
     }
       where
         left : (c : Walk) {x₀ : Context} {A X : State} → c.nest ≡ true → Rep c e.records x₀ A x → Rep (within r c) e.records x₀ X x₃

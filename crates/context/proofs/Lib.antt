@@ -8,6 +8,7 @@ pub mod BarLaws
 pub mod LoopLaws
 mod LabelLaws
 pub mod StayLaws
+pub mod SizeLaws
 pub mod LeaveLaws
 pub mod InsideLaws
 pub mod PartLaws

@@ -45,23 +45,23 @@ if_going {c} {records} {x₀} {A} {f} q x {y} {x'} e h k = go (goes x) refl
 
 module _ {e : Lent} {x x' : Context} {f : Walk → State → State} where
   pub then : {x'' : Context} {g : Walk → State → State} → Sim e x x' f → Sim e x' x'' g → Sim e x x'' (λ c A. g c (f c A))
-  then h k = record { sim = λ z c x₀ A r. k.sim z c x₀ (f c A) (h.sim z c x₀ A r) }
+  then h k = record { sim = λ z c x₀ A r. k.sim z c x₀ (f c A) (h.sim z c x₀ A r); sizes = k.sizes ∙ h.sizes }
 
   pub resim : {g : Walk → State → State} → ((c : Walk) → Scoped e → (A : State) → g c A ≡ f c A) → Sim e x x' f → Sim e x x' g
-  resim q h = record { sim = λ z c x₀ A r. given (q c z A) (h.sim z c x₀ A r) }
+  resim q h = record { sim = λ z c x₀ A r. given (q c z A) (h.sim z c x₀ A r); sizes = h.sizes }
 
 module _ {records : List ℕ} {x x' : Context} {f : Walk → State → State} where
   pub then_moves : {x'' : Context} {g : Walk → State → State} → Moves records x x' f → Moves records x' x'' g → Moves records x x'' (λ c A. g c (f c A))
-  then_moves h k = record { moves = λ c x₀ A r. k.moves c x₀ (f c A) (h.moves c x₀ A r) }
+  then_moves h k = record { moves = λ c x₀ A r. k.moves c x₀ (f c A) (h.moves c x₀ A r); sizes = k.sizes ∙ h.sizes }
 
   pub removes : {g : Walk → State → State} → ((c : Walk) (A : State) → g c A ≡ f c A) → Moves records x x' f → Moves records x x' g
-  removes q h = record { moves = λ c x₀ A r. given (q c A) (h.moves c x₀ A r) }
+  removes q h = record { moves = λ c x₀ A r. given (q c A) (h.moves c x₀ A r); sizes = h.sizes }
 
   pub moves_sim : {notes : List ℕ} → Moves records x x' f → Sim (record { records = records; notes = notes }) x x' f
-  moves_sim h = record { sim = λ z. h.moves }
+  moves_sim h = record { sim = λ z. h.moves; sizes = h.sizes }
 
 pub stay : {e : Lent} {x : Context} → Sim e x x (λ c A. A)
-stay = record { sim = λ z c x₀ A h. h }
+stay = record { sim = λ z c x₀ A h. h; sizes = refl }
 
 -- ---- get_label
 

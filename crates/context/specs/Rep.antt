@@ -110,13 +110,23 @@ pub record Scoped (e : Lent) : Type 0 where
   pub small : size_of e.records < limit
   pub backs : (c : ℕ) → (next e.records c ≡ 0 → ⊥) → earlier_noted e.notes (next e.records c) ≡ c
 
--- from the context x to x' the state goes by f, whatever the notes
+-- how many words the two slices have that a run writes
+unfoldable pub sizes_of : Context → ℕ × ℕ
+sizes_of x = (length x.code.now, length x.consts.now)
+
+-- they are as long as they were
+abbrev pub SameSizes : Context → Context → Type 0
+SameSizes x x' = sizes_of x' ≡ sizes_of x
+
+-- from the context x to x' the state goes by f, whatever the notes, and the slices keep their lengths
 pub record Moves (records : List ℕ) (x x' : Context) (f : Walk → State → State) : Type 0 where
   pub moves : (c : Walk) (x₀ : Context) (A : State) → Rep c records x₀ A x → Rep c records x₀ (f c A) x'
+  pub sizes : SameSizes x x'
 
 -- the same where the shared tables are right
 pub record Sim (e : Lent) (x x' : Context) (f : Walk → State → State) : Type 0 where
   pub sim : Scoped e → (c : Walk) (x₀ : Context) (A : State) → Rep c e.records x₀ A x → Rep c e.records x₀ (f c A) x'
+  pub sizes : SameSizes x x'
 
 -- the words x are those of an instruction that names no constant
 abbrev pub Shown : MarkerWords → Op → Type 0

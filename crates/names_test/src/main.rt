@@ -1,6 +1,8 @@
 // Replays cases of the name tables: for each case of the input seven lengths and the words of tables 1 to 7, written back as each function's names.
 #![tactic(auto)]
 
+ghost use Rattle.std.specs.Prelude.{◌≤◌, length};
+
 use pool::resolve::resolve;
 use pool::spans::{Span, span_of};
 use replay::case::Case;
@@ -22,7 +24,9 @@ fn longer(number: u32, digit: u32) -> u32 {
 }
 
 // The numbers of the text, whatever stands between them, as many as the words hold; answers how many.
-fn numbers(text: &[u8], words: &mut [u32]) -> usize {
+fn numbers(text: &[u8], words: &mut [u32]) -> usize
+    ensures { result ≤ length words.new }
+{
     let mut count = 0usize;
     let mut number: Option<u32> = None;
     for &b in text {
@@ -32,10 +36,10 @@ fn numbers(text: &[u8], words: &mut [u32]) -> usize {
             count = kept(words, count, word);
         }
     }
-    match number {
-        Some(word) => kept(words, count, word),
-        None => count,
+    if let Some(word) = number {
+        count = kept(words, count, word);
     }
+    count.min(words.len())
 }
 
 // One word more, if there is room.

@@ -8,11 +8,12 @@ use Rattle.rules.specs.Marker.{Pop, Label, Do, mark}
 use Rattle.rules.specs.Run.{emit}
 use Rattle.context.specs.Words.{cap}
 use Rattle.context.specs.Sinks.{pushed}
-use Rattle.context.specs.Rep.{Moves}
+use Rattle.context.specs.Rep.{SameSizes, Moves}
 use Rattle.context.specs.declared.Context.{Context}
 use Rattle.context.proofs.RepLaws.{then_moves, removes}
 use Rattle.context.proofs.MarkLaws.{placed, said}
 use Rattle.context.proofs.StayLaws.{push_stays}
+use Rattle.context.proofs.SizeLaws.{pushed_sizes}
 use Rattle.plain.proofs.GoLaws.{cap_after}
 use Rattle.pattern.specs.declared.clean.CleanStack.{CleanStack}
 use Rattle.pattern.specs.Tests.{cleanup_run}
@@ -26,6 +27,7 @@ pub record CleanTurn (s : CleanStack) (w₀ : Context) (n₀ : ℕ) (w : Context
   pub work : (recs : List ℕ) (r x : ℕ) → s.first.0 ≡ cap x → (w' : Context) → Moves recs w w' (λ c. cleanup_run r x (n - 1))
       → Moves recs w₀ w' (λ c. cleanup_run r x (n₀ - 1))
   pub consts : w.consts ≡ w₀.consts
+  pub sizes : SameSizes w₀ w
 
 module _ {s : CleanStack} {w₀ w : Context} where
   -- one label and a Pop
@@ -41,9 +43,11 @@ module _ {s : CleanStack} {w₀ w : Context} where
             = record {
               moves = λ c o₀ A g. said r Pop 0 refl refl b
                   (placed r (x + suc (m - 1)) refl (el ∙ cap_after s.first.0 m x e ∙ ap (λ (i : ℕ). cap (x + i)) y) a g);
+              sizes = pushed_sizes _ _ b ∙ pushed_sizes _ _ a;
             } in
             t.work recs r x e w' (removes (λ c A. ap (λ (i : ℕ). cleanup_run r x i A) z) (then_moves one h));
         consts = push_stays _ _ b ∙ push_stays _ _ a ∙ t.consts;
+        sizes = pushed_sizes _ _ b ∙ pushed_sizes _ _ a ∙ t.sizes;
       }
 
   -- the first label
@@ -57,6 +61,7 @@ module _ {s : CleanStack} {w₀ w : Context} where
               let z : n - 1 ≡ 0 = omega arith in
               let y : x + 0 ≡ x = omega arith in
               t.work recs r x e _ (removes (λ c A. ap (λ (i : ℕ). cleanup_run r x i A) z)
-              (record { moves = λ c o₀ A g. placed r x refl (el ∙ cap_after s.first.0 0 x e ∙ ap cap y) a g }));
+              (record { moves = λ c o₀ A g. placed r x refl (el ∙ cap_after s.first.0 0 x e ∙ ap cap y) a g; sizes = pushed_sizes _ _ a }));
+          sizes = pushed_sizes _ _ a ∙ t.sizes;
         };
       }

@@ -21,7 +21,7 @@ use Rattle.plain.proofs.GoLaws.{cap_after}
 use Rattle.pattern.specs.declared.clean.CleanStack.{CleanStack}
 use Rattle.pattern.specs.Tests.{first_labels, lit_run, ident_run, table_run, pattern_run, first_run}
 use Rattle.pattern.specs.Promises.{WithLabel, Deepens, VisitsPattern, VisitsNested}
-use Rattle.pattern.proofs.TurnLaws.{rank, rank_falls, Turn, first_some, nested_visits}
+use Rattle.pattern.proofs.TurnLaws.{rank, rank_falls, Turn, first_some, nested_sizes, nested_visits}
 
 -- ---- kinds
 
@@ -50,6 +50,7 @@ module _ (recs notes : List ℕ) {q d : ℕ} {s : CleanStack} where
               nested_visits recs notes key nq (on_true (is_kind 37 (words recs q)) _ _ (eq-eqb _ 37 k)) (nested_as (word recs q 0) 37 k refl) e₀
               (en ∙ ap (λ (x : ℕ). cap (x / 2)) (em ∙ ap (λ (x : ℕ). width (own_tree (forest recs x))) e₀) ∙ ap cap (sym (on_true (is_kind 37 (words recs q)) _ _ (eq-eqb _ 37 k))))
               eD deep el test t ec pop;
+          sizes = nested_sizes deep (test q) t pop;
         }
 
     pub list_visits : n ≡ cap m → Turn recs notes item q D w₂ c₀ s₁ w₃ c i s₂ → c ≡ 0 → w₄ ≡ pushed (pair_of 0 0) w₃
@@ -61,6 +62,7 @@ module _ (recs notes : List ℕ) {q d : ℕ} {s : CleanStack} where
               nested_visits recs notes item nq (on_false (is_kind 37 (words recs q)) _ _ no) (nested_as (word recs q 0) 38 k refl) e₀
               (en ∙ ap cap (em ∙ ap (λ (x : ℕ). width (own_tree (forest recs x))) e₀) ∙ ap cap (sym (on_false (is_kind 37 (words recs q)) _ _ no)))
               eD deep el test t ec pop;
+          sizes = nested_sizes deep (test q) t pop;
         }
 
   -- ---- no pattern
@@ -72,6 +74,7 @@ module _ (recs notes : List ℕ) {q d : ℕ} {s : CleanStack} where
         taken = λ f. sym (ap (λ (x : ℕ). first_labels d s.taken (forest recs x)) e ∙ ap (first_labels d s.taken) (forest_absent recs));
         visits = λ f r x z. resim (λ v sc A.
             ap (λ (y : ℕ). first_run notes r x d s.taken (forest recs y) A) e ∙ ap (λ (y : Forest). first_run notes r x d s.taken y A) (forest_absent recs)) stay;
+        sizes = refl;
       }
 
   -- ---- a pattern that has none inside
@@ -90,6 +93,7 @@ module _ (recs notes : List ℕ) {q d : ℕ} {s : CleanStack} where
           visits = λ f r x e. resim (λ v sc A.
               first_some recs notes r x d s.taken q A nq ∙ on_false (is_nested (words recs q)) _ _ no ∙ on_true (is_kind 36 (words recs q)) _ _ (eq-eqb _ 36 k))
               (moves_sim ((test recs).moves r (x + d) (el ∙ cap_after s.first.0 d x e)));
+          sizes = (test recs).sizes;
         }
 
     pub visit_lit : {w w' : Context} → (word recs q 0 ≡ 37 → ⊥) → (word recs q 0 ≡ 38 → ⊥) → (word recs q 0 ≡ 36 → ⊥)
@@ -103,6 +107,7 @@ module _ (recs notes : List ℕ) {q d : ℕ} {s : CleanStack} where
           visits = λ f r x e. resim (λ v sc A.
               first_some recs notes r x d s.taken q A nq ∙ on_false (is_nested (words recs q)) _ _ no ∙ on_false (is_kind 36 (words recs q)) _ _ (ne_eqb _ 36 n₃))
               (moves_sim ((test q).moves r (x + d) (el ∙ cap_after s.first.0 d x e)));
+          sizes = (test q).sizes;
         }
 
 -- ---- the measure: twice the records left, and one less for a Table's or List's visit of its children

@@ -14,12 +14,13 @@ use Rattle.rules.specs.Marker.{Jump, Copy, Pop, To, Do, mark}
 use Rattle.rules.specs.Run.{State, labels, emit, bump}
 use Rattle.context.specs.Words.{cap, more}
 use Rattle.context.specs.Sinks.{pushed}
-use Rattle.context.specs.Rep.{lent_words, Sim}
+use Rattle.context.specs.Rep.{lent_words, SameSizes, Sim}
 use Rattle.context.specs.declared.Context.{Context}
 use Rattle.context.specs.Does.{child}
 use Rattle.context.proofs.Basics.{more_cap}
 use Rattle.context.proofs.RepLaws.{given, then, resim, stay, label, labelled}
 use Rattle.context.proofs.MarkLaws.{jumped, said}
+use Rattle.context.proofs.SizeLaws.{pushed_sizes, taken_sizes}
 use Rattle.pattern.specs.declared.clean.CleanStack.{CleanStack}
 use Rattle.pattern.specs.Tests.{own, labels_visited, first_labels, first_run, cleanup_run, test_run, case_run, cases_run}
 use Rattle.pattern.specs.Promises.{Begins, Cleans, Deep, VisitsPattern, TestsPattern, TestsCase, Tests}
@@ -43,6 +44,7 @@ module _ (recs notes : List ℕ) where
         → TestsPattern recs notes w w₆ q l
     unfolding test_run
     pattern_tests b copy k pop jump clean =
+        let sizes = (clean.cleans recs).sizes ∙ pushed_sizes _ _ jump ∙ pushed_sizes _ _ pop ∙ k.sizes ∙ pushed_sizes _ _ copy ∙ taken_sizes b.label in
         record {
           tests = λ lt sz r y e. record {
             sim = λ z v o₀ A h.
@@ -59,7 +61,9 @@ module _ (recs notes : List ℕ) where
                 let B = emit (mark r (Do Copy 1)) (bump A) in
                 given (ap₂ (λ (n : ℕ) (C : State). cleanup_run r x (n - 1) (emit (mark r (To Jump y)) (emit (mark r (Do Pop 0)) C))) taken
                 (first_tree r x 0 1 q B ne ∙ ap (λ (n : ℕ). first_run notes r x 0 n (forest recs q) B) (sym b.taken))) h₄;
+            sizes = sizes;
           };
+          sizes = sizes;
         }
 
   -- ---- the patterns of the Case q: those before the record p are tested, and what tests the others tests all
@@ -69,6 +73,7 @@ module _ (recs notes : List ℕ) where
     pub link : Onward recs q p
     pub work : (q ≡ 0 → ⊥) → (r y : ℕ) → l ≡ cap y → (w' : Context) → Sim (lent_words recs notes) w w' (λ v. case_run notes r y (n - i) (forest recs p))
         → Sim (lent_words recs notes) w₀ w' (λ v. case_run notes r y n (forest recs p₀))
+    pub sizes : SameSizes w₀ w
 
   child_onward : (q p : ℕ) → p ≡ child recs q 0 → Onward recs q p
   child_onward zero p e = inl e
@@ -109,6 +114,7 @@ module _ (recs notes : List ℕ) where
           range = omega arith;
           link = child_onward q p₀ e;
           work = λ ne r y z w' h. resim (λ v sc A. ap (λ (k : ℕ). case_run notes r y k (forest recs p₀) A) (let k : n ≡ n - 0 = omega arith in k)) h;
+          sizes = refl;
         }
 
     module _ {w₀ w : Context} {p i : ℕ} (t : CaseTurn q l n w₀ p₀ w p i) where
@@ -124,6 +130,7 @@ module _ (recs notes : List ℕ) where
                 case_some r y (n - i) (n - j) p A np (omega arith)
                 ∙ ap (λ (z : ℕ). case_run notes r y (n - j) (forest recs z) (test_run notes r y p (words recs p) (children recs p) A)) (sym ex))
                 (then (k.tests b.0 b.1 r y e) h));
+            sizes = k.sizes ∙ t.sizes;
           }
         where
           inside : (q ≡ 0 → ⊥) → Onward recs q p → (1 < p) × (p < size recs)
@@ -138,6 +145,7 @@ module _ (recs notes : List ℕ) where
             tests = λ ne r y e.
                 resim (λ v sc A. ap₂ (λ (k : ℕ) (f : Forest). case_run notes r y k f A) (sym en) (own_child q p₀ ne ep))
                 (t.work ne r y e w (resim (λ v sc A. z r y A) stay));
+            sizes = t.sizes;
           }
 
       pub case_short : n ≡ word recs q 2 → p₀ ≡ child recs q 0 → p ≡ 0 → TestsCase recs notes w₀ w q l
@@ -153,6 +161,7 @@ module _ (recs notes : List ℕ) where
     pub label : (base : ℕ) → l₀ ≡ cap base → l ≡ cap (base + turn)
     pub work : (r base : ℕ) → l₀ ≡ cap base → (w' : Context) → Sim (lent_words recs notes) w w' (λ v. cases_run notes r (base + turn) (forest recs c))
         → Sim (lent_words recs notes) w₀ w' (λ v. cases_run notes r base (forest recs c₀))
+    pub sizes : SameSizes w₀ w
 
   cases_none : (r y c : ℕ) (A : State) → c ≡ 0 → cases_run notes r y (forest recs c) A ≡ A
   unfolding cases_run
@@ -171,6 +180,7 @@ module _ (recs notes : List ℕ) where
         turn = 0;
         label = λ base e. e ∙ ap cap (let z : base ≡ base + 0 = omega arith in z);
         work = λ r base e w' h. resim (λ v sc A. ap (λ (y : ℕ). cases_run notes r y (forest recs c) A) (let z : base ≡ base + 0 = omega arith in z)) h;
+        sizes = refl;
       }
 
   module _ {l₀ c₀ c l : ℕ} {w₀ w : Context} (t : CasesTurn l₀ w₀ c₀ w c l) where
@@ -187,7 +197,8 @@ module _ (recs notes : List ℕ) where
               ∙ ap₂ (λ (i z : ℕ). cases_run notes r i (forest recs z) (case_run notes r y (word recs c 2) (own (words recs c) (children recs c)) A))
               (let z : suc (base + t.turn) ≡ base + suc t.turn = omega arith in z) (sym ex))
               (then (k.tests ne r y (t.label base e)) h));
+          sizes = k.sizes ∙ t.sizes;
         }
 
     pub cases_done : c ≡ 0 → Tests recs notes w₀ w c₀ l₀
-    cases_done z = record { tests = λ r base e. t.work r base e w (resim (λ v sc A. cases_none r (base + t.turn) c A z) stay) }
+    cases_done z = record { tests = λ r base e. t.work r base e w (resim (λ v sc A. cases_none r (base + t.turn) c A z) stay); sizes = t.sizes }

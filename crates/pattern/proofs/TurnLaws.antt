@@ -19,11 +19,12 @@ use Rattle.rules.specs.Patterns.{Part, item, key, value, parts, is_nested, grown
 use Rattle.rules.specs.Run.{State, emit, bump}
 use Rattle.context.specs.Words.{limit, cap, more}
 use Rattle.context.specs.Sinks.{pushed}
-use Rattle.context.specs.Rep.{lent_words, Sim}
+use Rattle.context.specs.Rep.{lent_words, SameSizes, Sim}
 use Rattle.context.specs.declared.Context.{Context}
 use Rattle.context.proofs.Basics.{on_true}
 use Rattle.context.proofs.RepLaws.{then, resim, moves_sim, stay, bumps, labelled}
 use Rattle.context.proofs.MarkLaws.{said}
+use Rattle.context.proofs.SizeLaws.{pushed_sizes, taken_sizes}
 use Rattle.plain.specs.Runs.{item_run}
 use Rattle.plain.specs.Leaves.{GetsItem}
 use Rattle.plain.proofs.GoLaws.{cap_after}
@@ -158,6 +159,7 @@ pub record Turn (recs notes : List ℕ) (a : Part) (q d : ℕ) (w₀ : Context) 
   pub work : Fits recs d q → (r x : ℕ) → s₀.first.0 ≡ cap x → (w' : Context)
       → Sim (lent_words recs notes) w w' (λ v. inside_run notes r a x d s.taken q i (forest recs c))
       → Sim (lent_words recs notes) w₀ w' (λ v. inside_run notes r a x d s₀.taken q 0 (forest recs c₀))
+  pub sizes : SameSizes w₀ w
 
 -- of a Table, whose children are not counted
 pub record TableTurn (recs notes : List ℕ) (q d : ℕ) (w₀ : Context) (c₀ : ℕ) (s₀ : CleanStack) (w : Context) (c : ℕ) (s : CleanStack) : Type 0 where
@@ -206,6 +208,7 @@ module _ (recs notes : List ℕ) {q d : ℕ} where
         few = λ ne. omega (arith, ne);
         taken = λ f. refl;
         work = λ f r x z w' h. h;
+        sizes = refl;
       }
 
   module _ {w₀ w w₁ w₂ : Context} {c₀ c x i : ℕ} {s₀ s s' : CleanStack} where
@@ -230,6 +233,7 @@ module _ (recs notes : List ℕ) {q d : ℕ} where
               item_turn recs notes r y d s.taken q i c A ne
               ∙ same_inside recs notes item r y d q _ (sym (k.taken deep)) (sym (one_more recs q c i j t.link ne f.0 (t.few ne) ej)) (sym ex))
               (then (then (moves_sim (g.moves r q)) tested) z));
+          sizes = k.sizes ∙ (g.moves q q).sizes ∙ t.sizes;
         }
 
     -- one pair of a Table; the last may lack its pattern
@@ -256,6 +260,7 @@ module _ (recs notes : List ℕ) {q d : ℕ} where
               ∙ value_turn recs notes r y d s.taken q (suc i) l (item_run r c (lit_of (words recs c)) A)
               ∙ same_inside recs notes key r y d q _ (sym (k.taken deep)) refl (sym ex))
               (then (then (moves_sim (g.moves r c)) tested) z));
+          sizes = k.sizes ∙ (g.moves q q).sizes ∙ t.sizes;
         }
 
 -- ---- a Table or List: its label, its tests, its children and a Pop
@@ -298,6 +303,13 @@ nested_run recs notes r x d h q n g D c a A nq en ea es eg eD ec =
     run : Part → ℕ → ℕ → ℕ → ℕ → State → State
     run p k i f m B = emit (mark r (Do Pop 0)) (inside_run notes r p x k i q 0 (forest recs f) (table_run r (x + suc d) q w m B))
 
+deepened_sizes : {w w' : Context} {s s' : CleanStack} {d : ℕ} → Deepens w w' s s' d → SameSizes w w'
+deepened_sizes {s = s} {d = d} deep = taken_sizes {n = cond (ltb d s.taken) 0 1} (record { label = refl; context = deep.context })
+
+pub nested_sizes : {recs notes : List ℕ} {q D l c₀ c i : ℕ} {a : Part} {f : ℕ → ℕ → State → State} {s s₁ s₂ : CleanStack} {w w₁ w₂ w₃ w₄ : Context} → Deepens w w₁ s s₁ D
+    → WithLabel recs w₁ w₂ l f → Turn recs notes a q D w₂ c₀ s₁ w₃ c i s₂ → w₄ ≡ pushed (pair_of 0 0) w₃ → SameSizes w w₄
+nested_sizes deep test t pop = pushed_sizes _ _ pop ∙ t.sizes ∙ test.sizes ∙ deepened_sizes deep
+
 module _ (recs notes : List ℕ) {q d D n l c₀ c i : ℕ} {s s₁ s₂ : CleanStack} {w w₁ w₂ w₃ w₄ : Context} where
   pub nested_visits : (a : Part) → (q ≡ 0 → ⊥) → parts (words recs q) ≡ a → is_nested (words recs q) ≡ true → c₀ ≡ first recs q
       → n ≡ cap (pattern_size (words recs q) (own_tree (children recs q))) → D ≡ more d → Deepens w w₁ s s₁ D → l ≡ cap (s₁.first.0 + D)
@@ -316,13 +328,14 @@ module _ (recs notes : List ℕ) {q d D n l c₀ c i : ℕ} {s s₁ s₂ : Clean
             let label : l ≡ cap (x + suc d)
             = el ∙ ap (λ (k : LabelId). cap (k.0 + D)) deep.first ∙ cap_after s.first.0 D x e ∙ ap (λ (k : ℕ). cap (x + k)) (depth f) in
             let opened : Sim (lent_words recs notes) w w₁ (λ v. bumps (cond (ltb D s.taken) 0 1))
-            = record { sim = λ z v o A h. labelled {n = cond (ltb D s.taken) 0 1} (record { label = refl; context = deep.context }) h } in
+            = record { sim = λ z v o A h. labelled {n = cond (ltb D s.taken) 0 1} (record { label = refl; context = deep.context }) h; sizes = deepened_sizes deep } in
             let inside = t.work (fits f) r x (ap (λ (k : LabelId). k.0) deep.first ∙ e) w₃
             (resim (λ v z A. inside_none recs notes r a x D s₂.taken q i c A ec) stay) in
             let closed : Sim (lent_words recs notes) w₃ w₄ (λ v. emit (mark r (Do Pop 0)))
-            = record { sim = λ z v o A h. said r Pop 0 refl refl pop h } in
+            = record { sim = λ z v o A h. said r Pop 0 refl refl pop h; sizes = pushed_sizes _ _ pop } in
             resim (λ v z A. nested_run recs notes r x d s.taken q n s₁.taken D c₀ a A nq en ea (count f.0) (labels f) (depth f) e₀)
             (then (then (then opened (moves_sim ((test q).moves r (x + suc d) label))) inside) closed);
+        sizes = nested_sizes deep (test q) t pop;
       }
     where
       some : (q : ℕ) → (q ≡ 0 → ⊥) → labels_visited d s.taken (words recs q) (children recs q) ≡ first_labels d s.taken (forest recs q)

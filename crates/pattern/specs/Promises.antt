@@ -5,7 +5,7 @@ use Rattle.tables.specs.Forest.{forest, children}
 use Rattle.rules.specs.Run.{State}
 use Rattle.context.specs.Words.{limit, cap, more}
 use Rattle.context.specs.Sinks.{took_many, Takes}
-use Rattle.context.specs.Rep.{lent_words, Moves, Sim}
+use Rattle.context.specs.Rep.{lent_words, SameSizes, Moves, Sim}
 use Rattle.context.specs.declared.Context.{Context}
 use Rattle.pattern.specs.declared.clean.CleanStack.{CleanStack}
 use Rattle.pattern.specs.Tests.{own, first_labels, first_run, cleanup_run, test_run, case_run, cases_run}
@@ -13,6 +13,7 @@ use Rattle.pattern.specs.Tests.{own, first_labels, first_run, cleanup_run, test_
 -- a test that fails to the label l
 pub record WithLabel (recs : List ℕ) (w w' : Context) (l : ℕ) (f : ℕ → ℕ → State → State) : Type 0 where
   pub moves : (r y : ℕ) → l ≡ cap y → Moves recs w w' (λ c. f r y)
+  pub sizes : SameSizes w w'
 
 -- a pattern's first label
 pub record Begins (w w' : Context) (s : CleanStack) : Type 0 where
@@ -38,22 +39,27 @@ pub record VisitsPattern (recs notes : List ℕ) (w w' : Context) (q d : ℕ) (s
   pub first : s'.first ≡ s.first
   pub taken : Deep recs d q → s'.taken ≡ first_labels d s.taken (forest recs q)
   pub visits : Deep recs d q → (r x : ℕ) → s.first.0 ≡ cap x → Sim (lent_words recs notes) w w' (λ c. first_run notes r x d s.taken (forest recs q))
+  pub sizes : SameSizes w w'
 
 -- a pattern of kind k
 pub record VisitsNested (recs notes : List ℕ) (w w' : Context) (k q d : ℕ) (s s' : CleanStack) : Type 0 where
   pub visits : word recs q 0 ≡ k → (q ≡ 0 → ⊥) → VisitsPattern recs notes w w' q d s s'
+  pub sizes : SameSizes w w'
 
 -- a pattern of a Case whose block has the label l
 pub record TestsPattern (recs notes : List ℕ) (w w' : Context) (q l : ℕ) : Type 0 where
   pub tests : 1 < q → q < size recs → (r y : ℕ) → l ≡ cap y
       → Sim (lent_words recs notes) w w' (λ c. test_run notes r y q (words recs q) (children recs q))
+  pub sizes : SameSizes w w'
 
 -- the patterns of the Case q
 pub record TestsCase (recs notes : List ℕ) (w w' : Context) (q l : ℕ) : Type 0 where
   pub tests : (q ≡ 0 → ⊥) → (r y : ℕ) → l ≡ cap y
       → Sim (lent_words recs notes) w w' (λ c. case_run notes r y (word recs q 2) (own (words recs q) (children recs q)))
+  pub sizes : SameSizes w w'
 
 -- the tests of the Cases from the record q on, whose blocks' labels are the word l and those behind it, whatever Match they are of
 pub record Tests (recs notes : List ℕ) (w w' : Context) (q l : ℕ) : Type 0 where
   pub tests : (r base : ℕ) → l ≡ cap base
       → Sim (lent_words recs notes) w w' (λ c. cases_run notes r base (forest recs q))
+  pub sizes : SameSizes w w'

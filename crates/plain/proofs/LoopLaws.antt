@@ -13,12 +13,13 @@ use Rattle.rules.specs.Step.{Set, stores_down, width}
 use Rattle.rules.specs.Arms.{params_steps}
 use Rattle.rules.specs.Run.{State, exec}
 use Rattle.context.specs.Sinks.{pushed, used as used_of}
-use Rattle.context.specs.Rep.{Walk, Lent, Scoped, Moves, Sim}
+use Rattle.context.specs.Rep.{Walk, Lent, Scoped, SameSizes, Moves, Sim}
 use Rattle.context.specs.declared.Context.{Context}
 use Rattle.context.specs.Does.{nth, access_noted, doing, does}
 use Rattle.context.proofs.RepLaws.{given, then_moves, removes}
 use Rattle.context.proofs.MarkLaws.{said}
 use Rattle.context.proofs.StayLaws.{push_stays, use_stays}
+use Rattle.context.proofs.SizeLaws.{pushed_sizes, used_sizes}
 use Rattle.context.proofs.PartLaws.{width_none, nth_next}
 use Rattle.plain.specs.Runs.{repeated, use_at, register, registering, item_put, items_put}
 use Rattle.plain.specs.Leaves.{GetsItem, Registers}
@@ -39,12 +40,12 @@ module _ {records : List ℕ} {f : Walk → State → State} where
   rest_go d m q = record { rest = λ w'' h. d.rest w'' (removes q (then_moves m h)) }
 
   pub rest_end : {w₁ w : Context} {g : Walk → State → State} → Rest records w₁ f w g → ((c : Walk) (A : State) → g c A ≡ A) → Moves records w₁ w f
-  rest_end {w = w} d q = d.rest w (record { moves = λ c o₀ A h. given (q c A) h })
+  rest_end {w = w} d q = d.rest w (record { moves = λ c o₀ A h. given (q c A) h; sizes = refl })
 
 -- the Ident at record i
 pub uses_moves : (e : Lent) {w w' : Context} (r i : ℕ) → w' ≡ used_of Set i (access_noted e.notes Set i) w
     → Moves e.records w w' (λ c. use_at e r Set i)
-uses_moves e r i k = record { moves = λ c o₀ A h. used_at e r Set i k h }
+uses_moves e r i k = record { moves = λ c o₀ A h. used_at e r Set i k h; sizes = used_sizes Set i (access_noted e.notes Set i) _ k }
 
 -- ---- copies: i - 1 are made
 
@@ -63,6 +64,7 @@ copying_again {i = i} d lt k = record {
         moves = λ c o₀ A h.
             given (ap (λ (m : ℕ). repeated x m A) (let z : i + 1 - 1 ≡ suc (i - 1) = omega (arith, d.from) in z) ∙ repeated_last x (i - 1) A)
             (said r Copy 1 refl refl k ((d.made records r).moves c o₀ A h));
+        sizes = pushed_sizes _ _ k ∙ (d.made records r).sizes;
       };
   from = omega (arith, d.from);
   most = omega (arith, d.from);
@@ -150,6 +152,7 @@ module _ (e : Lent) where
       pub place : Scoped e → 0 < n → i ≡ nth R (n - 1) (first R r)
       pub few : n ≤ width (row R (first R r))
       pub consts : w.consts ≡ w₁.consts
+      pub sizes : SameSizes w₁ w
 
     pub down_start : (w : Context) {l n i : ℕ} → l ≡ first R r → n ≡ width (row R l) → i ≡ nth R (width (row R l) - 1) l → Down w w n i
     unfolding does
@@ -158,6 +161,7 @@ module _ (e : Lent) where
       place = λ z h. ei ∙ ap₂ (λ (k x : ℕ). nth R k x) (ap (λ (k : ℕ). k - 1) (sym en)) el;
       few = let y : n ≡ width (row R (first R r)) = q in omega arith;
       consts = refl;
+      sizes = refl;
     }
       where
         q : n ≡ width (row R (first R r))
@@ -181,6 +185,7 @@ module _ (e : Lent) where
       place = λ z y. before z n m i x d.few em y (d.place z h) ex;
       few = omega (arith, d.few);
       consts = use_stays Set i (access_noted e.notes Set i) _ k ∙ d.consts;
+      sizes = used_sizes Set i (access_noted e.notes Set i) _ k ∙ d.sizes;
     }
 
     pub down_end : {w₁ w : Context} {n i : ℕ} → Down w₁ w n i → n ≤ 0
@@ -188,4 +193,4 @@ module _ (e : Lent) where
     unfolding doing exec
     down_end {n = n} d h =
         let z : n ≡ 0 = omega arith in
-        record { sim = λ s c o₀ A p. (rest_end (d.work s) (λ c A. ap (λ (k : ℕ). down k c A) z)).moves c o₀ A p }
+        record { sim = λ s c o₀ A p. (rest_end (d.work s) (λ c A. ap (λ (k : ℕ). down k c A) z)).moves c o₀ A p; sizes = d.sizes }

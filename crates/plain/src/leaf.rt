@@ -2,7 +2,7 @@
 ghost use Rattle.std.specs.Prelude.{◌≡◌, List, ℕ};
 ghost use Rattle.tables.specs.Record.{word};
 ghost use Rattle.rules.specs.Arms.{effect_steps, break_steps, continue_steps, params_steps};
-ghost use Rattle.context.specs.Rep.{lent, Moves};
+ghost use Rattle.context.specs.Rep.{lent, SameSizes, Moves};
 ghost use Rattle.context.specs.Does.{Arm};
 ghost use Rattle.plain.specs.Runs.{register as register_of, return_run};
 ghost use Rattle.plain.specs.Leaves.{Leaf, Registers};
@@ -22,7 +22,8 @@ use tables::ast::{first, next};
 
 // ExprKind::Effect; the number of a record that has a kind is a word.
 pub fn effect(tree: &Tree, cx: &mut Context, r: usize)
-    ensures { word tree.now.records.now r 0 ≡ 6 → Arm tree.now cx.old cx.new r (λ sc. effect_steps) }
+    ensures steps { word tree.now.records.now r 0 ≡ 6 → Arm tree.now cx.old cx.new r (λ sc. effect_steps) }
+    ensures sizes { SameSizes cx.old cx.new }
 {
     let name = first(tree.records, r);
     cx.push_load_const(tree.records, ConstValue::Effect(capped(r)));

@@ -9,6 +9,7 @@ use lib.ListN.{get_or}
 use lib.Dec.{eqb, ltb}
 use borrow.Author.Tests.{ne_eqb, le-ltb, ltb-true, ltb-false}
 use denote.Enum.Declared.{tag_of}
+use Rattle.std.specs.Prelude.{Option, None, Some}
 use Rattle.opcode.specs.Words.{op_words}
 use Rattle.opcode.specs.Members.{get_of, set_of, member_number}
 use Rattle.opcode.specs.Operators.{bin_number, from_un_op}
@@ -17,6 +18,7 @@ use Rattle.opcode.specs.declared.member.MemberKind.{MemberKind}
 use Rattle.opcode.specs.contracts.member.MemberKind.{the_type as member-type}
 use Rattle.opcode.specs.declared.member.MemberKind.TheVariants as member
 use Rattle.opcode.specs.declared.operator.BinOp.{BinOp}
+use Rattle.opcode.specs.declared.opcode.OpCode.{OpCode}
 use Rattle.tables.specs.Record.{Words, word, words}
 use Rattle.tables.specs.Forest.{Nodes, first, next, children, own_tree, none, tree}
 use Rattle.pool.specs.Value.{str, child}
@@ -28,14 +30,15 @@ use Rattle.rules.specs.Arms.{unary_code, property, get_code, set_code, safe_jump
 use Rattle.rules.specs.Run.{State, Spot, number_of, spot_at, sought, labels, bump, emit, exec}
 use Rattle.context.specs.Words.{limit, cap}
 use Rattle.context.specs.Sinks.{pushed, used as used_of}
-use Rattle.context.specs.Rep.{Walk, Lent, Scoped, Rep, Sim}
+use Rattle.context.specs.Rep.{Walk, Lent, Scoped, Rep, SameSizes, Sim}
 use Rattle.context.specs.declared.Context.{Context}
 use Rattle.context.specs.Does.{nth, access_noted, noted_look, visit_in, near, doing, does, through}
 use Rattle.context.proofs.Basics.{clash, on_true, on_false}
 use Rattle.context.proofs.MarkLaws.{said}
 use Rattle.context.proofs.NameLaws.{accessed}
+use Rattle.context.proofs.SizeLaws.{pushed_sizes, stopped_sizes}
 use Rattle.context.proofs.VisitLaws.{ident_number, visit_none, visit_does}
-use Rattle.plain.specs.Operators.{member_of, unary_of, is_short}
+use Rattle.plain.specs.Operators.{member_of, unary_of, is_short, with_operator}
 use Rattle.plain.specs.Runs.{safe_run}
 use Rattle.plain.proofs.OperatorLaws.{member_number_lem, get_words, set_words, unary_words}
 use Rattle.visit.specs.Arms.{property_steps}
@@ -152,6 +155,11 @@ module _ {c : Walk} {records : List ℕ} {o₀ : Context} {A : State} {w w' : Co
 pub unary : {c : Walk} {records : List ℕ} {o₀ : Context} {A : State} {w w' : Context} (r d : ℕ) {x : UnOp} → x ≡ unary_of d → w' ≡ pushed (op_words (from_un_op x)) w
     → Rep c records o₀ A w → Rep c records o₀ (emit (mark r (Do (unary_code d) 0)) A) w'
 unary {w} {w'} r d q k h = said r (unary_code d) 0 refl refl (subst (λ x. w' ≡ pushed x w) (ap (λ (x : UnOp). op_words (from_un_op x)) q ∙ unary_words d) k) h
+
+-- an operator that is pushed, or refused
+pub operated_sizes : (o : Option OpCode) (r : ℕ) (w : Context) {w' : Context} → w' ≡ with_operator o r w → SameSizes w w'
+operated_sizes (Some x) r w k = pushed_sizes _ w k
+operated_sizes None r w k = stopped_sizes _ w k
 
 -- a word's number is as a word holds it
 pub cap_word : (n : ℕ) → n ≤ limit → n ≡ cap n

@@ -12,7 +12,7 @@ use Rattle.rules.specs.Step.{Expr, Target, width}
 use Rattle.rules.specs.Run.{State, emit}
 use Rattle.context.specs.Words.{cap, more}
 use Rattle.context.specs.Sinks.{goes, kept as kept_of}
-use Rattle.context.specs.Rep.{Walk, Lent, Scoped, Sim}
+use Rattle.context.specs.Rep.{Walk, Lent, Scoped, SameSizes, Sim}
 use Rattle.context.specs.declared.Context.{Context}
 use Rattle.context.specs.Does.{nth, visit_in, through}
 use Rattle.context.proofs.Basics.{more_cap}
@@ -69,7 +69,7 @@ module _ (e : Lent) (r : ℕ) where
       }
 
     pub blocking_still : goes w' ≡ false → Sim e w w' (λ c. left_items e c r l₀)
-    blocking_still n = h.work.after _ (record { sim = λ z c o₀ A y. given (left_still e c r l A (stood y n)) y })
+    blocking_still n = h.work.after _ (record { sim = λ z c o₀ A y. given (left_still e c r l A (stood y n)) y; sizes = refl })
 
 -- ---- n siblings from the record a on
 
@@ -129,6 +129,7 @@ module _ (e : Lent) (a b m : ℕ) where
     pub label : (base : ℕ) → b ≡ cap base → x ≡ cap (base + turns)
     pub work : (r base end : ℕ) → b ≡ cap base → m ≡ cap end
         → Remains e w (λ c. bodied_all e c r base end a) w' (λ c. bodied_all e c r (base + turns) end l)
+    pub sizes : SameSizes w w'
 
   none_more : (i : ℕ) → i ≡ i + 0
   none_more i = omega arith
@@ -140,19 +141,21 @@ module _ (e : Lent) (a b m : ℕ) where
     turns = 0;
     label = λ i q. q ∙ ap cap (none_more i);
     work = λ r i j q d. all_left (λ c z A. ap (λ (y : ℕ). bodied_all e c r y j a A) (none_more i));
+    sizes = refl;
   }
 
   module _ {w w' : Context} {l x : ℕ} (h : Bodying w w' l x) where
     pub bodying_again : {w'' : Context} {y v : ℕ} → (l ≡ 0 → ⊥) → y ≡ next e.records l → v ≡ more x
-        → ((r i j : ℕ) → x ≡ cap i → m ≡ cap j → Sim e w' w'' (λ c. bodied e c r i j 1 l))
+        → ((r i j : ℕ) → x ≡ cap i → m ≡ cap j → Sim e w' w'' (λ c. bodied e c r i j 1 l)) → SameSizes w' w''
         → Bodying w w'' y v
-    bodying_again {y = y} ne q u d = record {
+    bodying_again {y = y} ne q u d k = record {
       along = along_next e.records q ne h.along;
       none = λ z. absurd (ne (h.none z));
       turns = suc h.turns;
       label = λ i z. u ∙ ap more (h.label i z) ∙ more_cap (i + h.turns) ∙ ap cap (one_on i);
       work = λ r i j z f. less_left (h.work r i j z f) (d r (i + h.turns) j (h.label i z) f)
           (λ c s A. bodied_turn e c r (i + h.turns) j l y A ne q ∙ ap (λ (t : ℕ). bodied_all e c r t j y (bodied e c r (i + h.turns) j 1 l A)) (one_on i));
+      sizes = k ∙ h.sizes;
     }
       where
         one_on : (i : ℕ) → suc (i + h.turns) ≡ i + suc h.turns
@@ -172,6 +175,7 @@ module _ (e : Lent) (r n : ℕ) where
     pub few : n ≤ width (own_tree (children e.records r))
     pub place : Scoped e → 0 < i → l ≡ child (i - 1)
     pub work : Remains e w (λ c. downs e c r n) w' (λ c. downs e c r i)
+    pub sizes : SameSizes w w'
 
   pub downing_start : (w : Context) {a m l i : ℕ} → i ≡ n → n ≤ width (own_tree (children e.records r)) → a ≡ first e.records r → m ≡ n - 1 → l ≡ nth e.records m a
       → Downing w w l i
@@ -180,6 +184,7 @@ module _ (e : Lent) (r n : ℕ) where
     few = le;
     place = λ z lt. d ∙ ap₂ (nth e.records) (p ∙ ap (λ (k : ℕ). k - 1) (sym s)) q;
     work = all_left (λ c z A. ap (λ (k : ℕ). downs e c r k A) (sym s));
+    sizes = refl;
   }
 
   down_step : (c : Walk) (i l : ℕ) (A : State) → 0 < i → l ≡ child (i - 1) → downs e c r i A ≡ downs e c r (i - 1) (visit_in e c Target l A)
@@ -203,6 +208,7 @@ module _ (e : Lent) (r n : ℕ) where
       few = h.few;
       place = λ z ls. back_step z i l x (omega (arith, h.bound, h.few)) (omega arith) (h.place z lt) q ∙ ap child (let y : i - 1 - 1 ≡ j - 1 = omega arith in y);
       work = less_left h.work v (λ c z A. down_step c i l A lt (h.place z lt) ∙ ap (λ (y : ℕ). downs e c r y (visit_in e c Target l A)) (sym m));
+      sizes = v.sizes ∙ h.sizes;
     }
 
     pub downing_end : i ≤ 0 → Sim e w w' (λ c. downs e c r n)
@@ -215,4 +221,5 @@ module _ (e : Lent) (r n : ℕ) where
           let q = h.place z lt in
           let ne = nth_some e.records (i - 1) (first e.records r) (omega (arith, h.bound, h.few)) in
           absurd (⊎_elim (λ v. ne (sym q ∙ v)) (λ v. omega (arith, v.0)) (linked_nth e.records r (i - 1) refl q));
+      sizes = h.sizes;
     }

@@ -9,7 +9,7 @@ use Rattle.rules.specs.Step.{Role, Step}
 use Rattle.rules.specs.Arms.{handler_steps}
 use Rattle.rules.specs.Run.{State, nested}
 use Rattle.context.specs.Words.{cap}
-use Rattle.context.specs.Rep.{Walk, within, Lent, lent, Sim}
+use Rattle.context.specs.Rep.{Walk, within, Lent, lent, SameSizes, Sim}
 use Rattle.context.specs.declared.Context.{Context}
 use Rattle.context.specs.declared.tree.Tree.{Tree}
 use Rattle.context.specs.Does.{visit_in, own_stream, does}
@@ -36,10 +36,13 @@ module _ (tree : Both (Bor Tree) (Bor Tree)) (cx : Both (MutBor Context) (MutBor
   abbrev pub Nests : ℕ → Type 0
   Nests r = Goes (λ e c. nested c.nest r (words e.records r) (own_stream e (within r c) r))
 
-  -- by the bodies from record l on, of whatever Call or Match, behind labels from the word k on, with jumps to the label of the word m
+  -- by the bodies from record l on, of whatever Call or Match, behind labels from the word k on, with jumps to the label of the word m; whatever
+  -- these are, the two slices keep their lengths
   pub record Bodies (l k m : ℕ) : Type 0 where
     pub bodies : (r base end : ℕ) → k ≡ cap base → m ≡ cap end → Goes (λ e c. bodied_all e c r base end l)
+    pub sizes : SameSizes cx.entry.now cx.exit.now
 
-  -- by a Handler's steps; the number of a record that has a kind is a word
+  -- by a Handler's steps; the number of a record that has a kind is a word; of whatever record, the two slices keep their lengths
   pub record Catches (h : ℕ) : Type 0 where
     pub catches : word tables.records h 0 ≡ 32 → Follows h (λ sc. handler_steps)
+    pub sizes : SameSizes cx.entry.now cx.exit.now

@@ -1,4 +1,5 @@
 use Rattle.context.proofs.MarkLaws.{sent}
+use Rattle.context.proofs.SizeLaws.{pushed_sizes, loaded_sizes, taken_sizes, used_sizes, opened_sizes, closed_sizes, stopped_sizes}
 use Rattle.tables.proofs.KindLaws.{numbered, unlike, other_kind, same_kind, is_do_kind, one_stored, items_stored, stores_one, has_items}
 use Rattle.tables.specs.declared.kind.Kind.TheVariants as kind
 use Prim.Native.Nat.{ℕ, ◌%◌, ◌-◌, ◌+◌, ◌/◌}
@@ -41,6 +42,7 @@ use Rattle.visit.proofs.ArmLaws.{
   member_bare,
   member_run,
   ident_at,
+  operated_sizes,
   member_tag,
   is_held,
   is_none,
@@ -204,6 +206,7 @@ assign-returns t c =
           let h1 = visited z Expr (next_of c.args.tree.now.records.now c.next-right.ensures c.first-left.ensures) c.expr.ensures h in
           let h2 = visited z Target c.first-left.ensures c.target.ensures h1 in
           nulled c.args.r c.push_null.ensures h2;
+      sizes = loaded_sizes _ _ _ _ c.push_null.ensures ∙ c.target.ensures.sizes ∙ c.expr.ensures.sizes;
     }
 
 neither_short : (o : BinOp) → (o ≡ op.And → ⊥) → (o ≡ op.Or → ⊥) → false ≡ is_short o
@@ -248,6 +251,7 @@ binary-returns-in_default t c =
           c.binary_operator-operator.result (sym (neither_short c.binary_operator-operator.result c.in_default.not-And c.in_default.not-Or))).1) A) (operated (word
           c.args.tree.now.records.now c.args.r 1)
           c.binary_operator-operator.ensures c.args.r c.push_binary.ensures h2);
+      sizes = operated_sizes _ _ _ c.push_binary.ensures ∙ c.expr-in_default.ensures.sizes ∙ c.expr.ensures.sizes;
     }
 
 pub block-returns-then-child-eq0 : goal.block-returns-then-child-eq0
@@ -256,6 +260,7 @@ block-returns-then-child-eq0 t c =
     record {
       sim = λ z v o₀ A h.
           given (block_none (lent c.args.tree.now) v c.args.r (sym c.first-child.ensures ∙ c.if-child-eq0.true) A) (nulled c.args.r c.push_null.ensures h);
+      sizes = loaded_sizes _ _ _ _ c.push_null.ensures;
     }
 
 pub block-loop-cx-init : goal.block-loop-cx-init
@@ -275,6 +280,7 @@ block-loop-cx-preserved t c =
     (record {
       sim = λ z v o₀ A h.
           said c.args.r Pop 0 refl refl (sent _ c.push_code.ensures.1 c.push_code.ensures.2) h;
+      sizes = pushed_sizes _ _ c.push_code.ensures.2;
     })
 
 pub block-returns : goal.block-returns
@@ -288,6 +294,7 @@ bodies-loop-at-init t c =
 
 pub bodies-loop-at-preserved : goal.bodies-loop-at-preserved
 bodies-loop-at-preserved t c =
+    let same = pushed_sizes _ _ c.push_code.ensures.2 ∙ c.expr.ensures.sizes ∙ pushed_sizes _ _ c.push_label.ensures in
     bodying_again (lent c.args.tree.now) c.args.first _ _ c.loop-at.invariant c.loop-at-test.true c.next-at.ensures
     c.next_label-label.ensures
     (λ r i j q d. record {
@@ -295,13 +302,15 @@ bodies-loop-at-preserved t c =
           let h1 = placed r i refl q c.push_label.ensures h in
           let h2 = visited z Expr refl c.expr.ensures h1 in
           jumped r Jump j refl d (sent _ c.push_code.ensures.1 c.push_code.ensures.2) h2;
-    })
+      sizes = same;
+    }) same
 
 pub bodies-returns : goal.bodies-returns
 bodies-returns t c =
     record {
       bodies = λ r i j p q. bodying_end (lent c.args.tree.now) c.args.first _ _ c.loop-at.invariant c.loop-at-test.false
           r i j p q;
+      sizes = c.loop-at.invariant.sizes;
     }
 
 pub body-returns-then-eq : goal.body-returns-then-eq
@@ -316,6 +325,8 @@ body-returns-then-eq t c =
           let h3 = said c.args.r Pop 0 refl refl (sent _ c.push_code.ensures.1 c.push_code.ensures.2) h2 in
           let h4 = said c.args.r LoadLocals 0 refl refl (sent _ c.push_code-then-eq.ensures.1 c.push_code-then-eq.ensures.2) h3 in
           said c.args.r Return 0 refl refl (sent _ c.push_code-then-eq-2.ensures.1 c.push_code-then-eq-2.ensures.2) h4;
+      sizes = pushed_sizes _ _ c.push_code-then-eq-2.ensures.2 ∙ pushed_sizes _ _ c.push_code-then-eq.ensures.2
+          ∙ pushed_sizes _ _ c.push_code.ensures.2 ∙ c.expr-2.ensures.sizes ∙ c.expr.ensures.sizes;
     })
 
 pub body-returns : goal.body-returns
@@ -328,6 +339,7 @@ body-returns t c =
           let h1 = visited z Expr c.first-params.ensures c.expr.ensures h in
           let h2 = visited z Expr (next_of c.args.tree.now.records.now c.next-block.ensures c.first-params.ensures) c.expr-2.ensures h1 in
           said c.args.r Return 0 refl refl (sent _ c.push_code-2.ensures.1 c.push_code-2.ensures.2) h2;
+      sizes = pushed_sizes _ _ c.push_code-2.ensures.2 ∙ c.expr-2.ensures.sizes ∙ c.expr.ensures.sizes;
     })
 
 pub call-returns-then-handlers-eq0 : goal.call-returns-then-handlers-eq0
@@ -344,6 +356,7 @@ call-returns-then-handlers-eq0 t c =
           (said c.args.r (call_of c.args.tail) _ refl (c.argument_count-argument_count.ensures ∙ ap₂ (λ (x y : ℕ). cap (argument_count c.args.tree.now.records.now x y))
           c.first-callee.ensures (c.arguments_len-n.ensures ∙ ap (λ (x : ℕ). arguments (own_tree (forest c.args.tree.now.records.now
           x))) (next_of c.args.tree.now.records.now c.next-arguments.ensures c.first-callee.ensures))) c.push_calling.ensures h2);
+      sizes = pushed_sizes _ _ c.push_calling.ensures ∙ c.all.ensures.sizes ∙ c.called.ensures.sizes;
     }
 
 pub call-returns : goal.call-returns
@@ -366,6 +379,9 @@ call-returns t c =
           c.args.tree.now.records.now) (c.arguments_len-n.ensures ∙ ap (λ (x : ℕ). arguments (own_tree (forest c.args.tree.now.records.now x))) (next_of c.args.tree.now.records.now
           c.next-arguments.ensures c.first-callee.ensures)) (next_of c.args.tree.now.records.now c.next-arguments.ensures c.first-callee.ensures)) c.if-handlers-eq0.false A)
           (placed c.args.r _ refl l c.push_label.ensures h7);
+      sizes = pushed_sizes _ _ c.push_label.ensures ∙ c.bodies.ensures.sizes ∙ pushed_sizes _ _ c.push_code-2.ensures.2
+          ∙ pushed_sizes _ _ c.push_code.ensures.2 ∙ (c.registers-handler_label.ensures.registers.moves c.args.r).sizes
+          ∙ taken_sizes c.get_label-end_label.ensures ∙ c.all.ensures.sizes ∙ c.called.ensures.sizes;
     }
 
 pub called-returns-then-callee-eq0 : goal.called-returns-then-callee-eq0
@@ -390,6 +406,8 @@ called-returns-then-is_unlabelled t c =
           let g = got c.args.callee (word c.args.tree.now.records.now c.args.callee 1 % 8) c.property_of-property.ensures c.push_get.ensures p in
           given (method_bare (lent c.args.tree.now) v c.args.callee (t ∙ c.if-is_unlabelled.true) A) (said c.args.callee
           Swap 2 refl refl (sent _ c.push_code-then-is_unlabelled.ensures.1 c.push_code-then-is_unlabelled.ensures.2) g);
+      sizes = pushed_sizes _ _ c.push_code-then-is_unlabelled.ensures.2 ∙ pushed_sizes _ _ c.push_get.ensures ∙ c.prop.ensures.sizes
+          ∙ pushed_sizes _ _ c.push_code.ensures.2 ∙ c.expr-2.ensures.sizes;
     })
 
 pub called-returns : goal.called-returns
@@ -409,6 +427,9 @@ called-returns t c =
           let q = said c.args.callee Swap 2 refl refl (sent _ c.push_code-3.ensures.1 c.push_code-3.ensures.2) g in
           given (method_run (lent c.args.tree.now) v c.args.callee (t ∙ c.if-is_unlabelled.false) A) (placed c.args.callee _
           refl l c.push_label.ensures q);
+      sizes = pushed_sizes _ _ c.push_label.ensures ∙ pushed_sizes _ _ c.push_code-3.ensures.2 ∙ pushed_sizes _ _ c.push_get-2.ensures
+          ∙ c.prop-2.ensures.sizes ∙ pushed_sizes _ _ c.push_code-2.ensures.2 ∙ c.push_safe_jump.ensures.jumps.sizes
+          ∙ taken_sizes c.get_label-safe_label.ensures ∙ c.expr-2.ensures.sizes;
     })
 
 pub cases-returns-then-value-eq0 : goal.cases-returns-then-value-eq0
@@ -432,11 +453,15 @@ cases-returns t c =
           let h9 = said c.args.r Swap 2 refl refl (sent _ c.push_code-2.ensures.1 c.push_code-2.ensures.2) h8 in
           given (match_run (lent c.args.tree.now) v c.args.r (next_of c.args.tree.now.records.now c.next-cases.ensures c.first-value.ensures) c.width.ensures (λ
           e. c.if-value-eq0.false (c.first-value.ensures ∙ e)) A) (said c.args.r Pop 0 refl refl (sent _ c.push_code-3.ensures.1 c.push_code-3.ensures.2) h9);
+      sizes = pushed_sizes _ _ c.push_code-3.ensures.2 ∙ pushed_sizes _ _ c.push_code-2.ensures.2 ∙ pushed_sizes _ _ c.push_label.ensures
+          ∙ c.bodies.ensures.sizes ∙ pushed_sizes _ _ c.push_code.ensures.2 ∙ loaded_sizes _ _ _ _ c.push_null.ensures ∙ c.patterns.ensures.sizes
+          ∙ taken_sizes c.get_labels-block_label.ensures ∙ c.expr.ensures.sizes ∙ taken_sizes c.get_label-end_label.ensures;
     }
 
 pub catch-returns : goal.catch-returns
 unfolding does doing exec
 catch-returns t c =
+    let same = c.expr-2.ensures.sizes ∙ c.expr.ensures.sizes ∙ pushed_sizes _ _ c.push_code.ensures.2 ∙ loaded_sizes _ _ _ _ c.push_load_const.ensures in
     record {
       catches = λ q. record {
         sim = λ z v o₀ A h.
@@ -447,7 +472,9 @@ catch-returns t c =
             let h3 = visited z Expr (next_of c.args.tree.now.records.now c.next-params.ensures c.first-effect.ensures) c.expr.ensures h2 in
             visited z Expr (next_of c.args.tree.now.records.now c.next-body.ensures (next_of c.args.tree.now.records.now c.next-params.ensures c.first-effect.ensures))
             c.expr-2.ensures h3;
+        sizes = same;
       };
+      sizes = same;
     }
 
 pub cond-returns-then-flag : goal.cond-returns-then-flag
@@ -469,6 +496,9 @@ cond-returns-then-flag t c =
           (next_of c.args.tree.now.records.now c.next-alternate.ensures (next_of c.args.tree.now.records.now c.next-consequent.ensures c.first-test.ensures))
           c.expr-then-flag.ensures h7 in
           placed c.args.r _ refl m c.push_label-then-flag.ensures h8;
+      sizes = pushed_sizes _ _ c.push_label-then-flag.ensures ∙ c.expr-then-flag.ensures.sizes ∙ pushed_sizes _ _ c.push_label.ensures
+          ∙ pushed_sizes _ _ c.push_code-2.ensures.2 ∙ c.expr-2.ensures.sizes ∙ pushed_sizes _ _ c.push_code.ensures.2 ∙ c.expr.ensures.sizes
+          ∙ taken_sizes c.get_label-end_label.ensures ∙ taken_sizes c.get_label-false_label.ensures;
     })
 
 pub cond-returns : goal.cond-returns
@@ -488,6 +518,9 @@ cond-returns t c =
           let h7 = placed c.args.r _ refl l c.push_label.ensures h6 in
           let h8 = nulled c.args.r c.push_null.ensures h7 in
           placed c.args.r _ refl m c.push_label-2.ensures h8;
+      sizes = pushed_sizes _ _ c.push_label-2.ensures ∙ loaded_sizes _ _ _ _ c.push_null.ensures ∙ pushed_sizes _ _ c.push_label.ensures
+          ∙ pushed_sizes _ _ c.push_code-2.ensures.2 ∙ c.expr-2.ensures.sizes ∙ pushed_sizes _ _ c.push_code.ensures.2 ∙ c.expr.ensures.sizes
+          ∙ taken_sizes c.get_label-end_label.ensures ∙ taken_sizes c.get_label-false_label.ensures;
     })
 
 pub each-returns : goal.each-returns
@@ -512,6 +545,10 @@ each-returns t c =
           c.first-left.ensures) ∙ nth_next c.args.tree.now.records.now (word c.args.tree.now.records.now c.args.r 2) (first c.args.tree.now.records.now c.args.r)) c.expr-2.ensures
           i2 in
           given (for_run (lent c.args.tree.now) v c.args.r c.p-n.ensures c.first-left.ensures A) ((c.end_for.ensures.moves c.args.r _ _ l m).moves v o₀ _ i3);
+      sizes = c.end_for.ensures.sizes ∙ c.expr-2.ensures.sizes ∙ (c.targets.ensures c.args.r).sizes ∙ pushed_sizes _ _ c.push_code-3.ensures.2
+          ∙ pushed_sizes _ _ c.push_code-2.ensures.2 ∙ pushed_sizes _ _ c.push_label.ensures ∙ pushed_sizes _ _ c.push_code.ensures.2
+          ∙ c.iterate.ensures.sizes ∙ c.expr.ensures.sizes ∙ opened_sizes _ _ c.begin_loop.ensures ∙ taken_sizes c.get_label-body_label.ensures
+          ∙ taken_sizes c.get_label-break_label.ensures ∙ taken_sizes c.get_label-continue_label.ensures;
     }
 
 pub expr-returns-then-r-eq0 : goal.expr-returns-then-r-eq0
@@ -526,6 +563,7 @@ expr-returns-in-Lit t c =
       sim = λ z v o₀ A h.
           lit_loaded c.args.r (word c.args.tree.now.records.now c.args.r 1) (word c.args.tree.now.records.now c.args.r 2) (word c.args.tree.now.records.now
           c.args.r 3) c.push_lit.ensures h;
+      sizes = loaded_sizes _ _ _ _ c.push_lit.ensures;
     })
 
 pub expr-returns-in-Ident : goal.expr-returns-in-Ident
@@ -535,6 +573,7 @@ expr-returns-in-Ident t c =
     (record {
       sim = λ z v o₀ A h.
           used_at (lent c.args.tree.now) c.args.r Get c.args.r c.load.ensures h;
+      sizes = used_sizes Get _ _ _ c.load.ensures;
     })
 
 pub expr-returns-in-Paren : goal.expr-returns-in-Paren
@@ -545,6 +584,7 @@ expr-returns-in-Paren t c =
     (record {
       sim = λ z v o₀ A h.
           visited z Expr c.first.ensures c.expr.ensures h;
+      sizes = c.expr.ensures.sizes;
     })
 
 pub expr-returns-in-Block : goal.expr-returns-in-Block
@@ -560,7 +600,7 @@ expr-returns-in-Fn t c =
 pub expr-returns-in-Effect : goal.expr-returns-in-Effect
 expr-returns-in-Effect t c =
     resim (λ v z A. by (lent c.args.tree.now) v c.args.r c.if-r-eq0.false (numbered _ _ kind.Effect c.kind.ensures c.in-Effect.is tt) A)
-    (c.effect.ensures (numbered _ _ kind.Effect c.kind.ensures c.in-Effect.is tt))
+    (c.effect.ensures.steps (numbered _ _ kind.Effect c.kind.ensures c.in-Effect.is tt))
 
 pub expr-returns-in-Table : goal.expr-returns-in-Table
 expr-returns-in-Table t c =
@@ -581,6 +621,7 @@ expr-returns-in-Unary t c =
       sim = λ z v o₀ A h.
           let h1 = visited z Expr c.first-in-Unary.ensures c.expr-in-Unary.ensures h in
           unary c.args.r (word c.args.tree.now.records.now c.args.r 1) c.unary_operator.ensures c.push_unary.ensures h1;
+      sizes = pushed_sizes _ _ c.push_unary.ensures ∙ c.expr-in-Unary.ensures.sizes;
     })
 
 pub expr-returns-in-Binary : goal.expr-returns-in-Binary
@@ -598,6 +639,7 @@ expr-returns-in-TypeCheck t c =
           let h1 = visited z Expr c.first-in-TypeCheck.ensures c.expr-in-TypeCheck.ensures h in
           said c.args.r TypeCheck (word c.args.tree.now.records.now c.args.r 1) refl (cap_word _ (let g = c.detail.type_inv in search rules) ∙ ap cap c.detail.ensures)
           (sent _ c.push_code.ensures.1 c.push_code.ensures.2) h1;
+      sizes = pushed_sizes _ _ c.push_code.ensures.2 ∙ c.expr-in-TypeCheck.ensures.sizes;
     })
 
 pub expr-returns-in-Member : goal.expr-returns-in-Member
@@ -638,6 +680,7 @@ fetch-returns-then-detail-eq-PLAIN t c =
     (record {
       sim = λ z v o₀ A h.
           used z c.args.left 0 Get c.first.ensures c.load.ensures h;
+      sizes = used_sizes Get _ _ _ c.load.ensures;
     })
 
 pub fetch-returns-then-is_meta : goal.fetch-returns-then-is_meta
@@ -650,6 +693,7 @@ fetch-returns-then-is_meta t c =
           given (before_meta (lent c.args.tree.now) v c.args.left c.if-left-eq0.false (same_kind _ _ kind.Left _ c.kind.ensures c.ne.ensures tt c.if-ne.false) (λ e.
           c.if-detail-eq-PLAIN.false (c.detail.ensures ∙ e)) c.left_property-property.ensures (sym c.is_meta.ensures ∙ c.if-is_meta.true) A) (got
           c.args.left (word c.args.tree.now.records.now c.args.left 1 - 1) c.left_property-property.ensures c.push_get.ensures h2);
+      sizes = pushed_sizes _ _ c.push_get.ensures ∙ pushed_sizes _ _ c.push_code.ensures.2 ∙ used_sizes Get _ _ _ c.load.ensures;
     }
 
 pub fetch-returns : goal.fetch-returns
@@ -664,6 +708,8 @@ fetch-returns t c =
           given (before_member (lent c.args.tree.now) v c.args.left c.if-left-eq0.false (same_kind _ _ kind.Left _ c.kind.ensures c.ne.ensures tt c.if-ne.false) (λ e.
           c.if-detail-eq-PLAIN.false (c.detail.ensures ∙ e)) c.left_property-property.ensures (sym c.is_meta.ensures ∙ c.if-is_meta.false) A) (got c.args.left
           (word c.args.tree.now.records.now c.args.left 1 - 1) c.left_property-property.ensures c.push_get-2.ensures h4);
+      sizes = pushed_sizes _ _ c.push_get-2.ensures ∙ pushed_sizes _ _ c.push_code-3.ensures.2 ∙ pushed_sizes _ _ c.push_code-2.ensures.2
+          ∙ c.prop.ensures.sizes ∙ used_sizes Get _ _ _ c.load.ensures;
     }
 
 pub func-returns-then-not-flag : goal.func-returns-then-not-flag
@@ -673,6 +719,7 @@ func-returns-then-not-flag t c =
     (record {
       sim = λ z v o₀ A h.
           visited z Expr c.first.ensures c.expr.ensures h;
+      sizes = c.expr.ensures.sizes;
     })
 
 pub func-returns : goal.func-returns
@@ -684,6 +731,7 @@ func-returns t c =
           let h1 = visited z Expr (next_of c.args.tree.now.records.now c.next-function.ensures c.first-name.ensures) c.expr-2.ensures h in
           let h2 = used z c.args.r 0 Set c.first-name.ensures c.store.ensures h1 in
           nulled c.args.r c.push_null.ensures h2;
+      sizes = loaded_sizes _ _ _ _ c.push_null.ensures ∙ used_sizes Set _ _ _ c.store.ensures ∙ c.expr-2.ensures.sizes;
     })
 
 pub glo-returns : goal.glo-returns
@@ -694,6 +742,7 @@ glo-returns t c =
           let h1 = visited z Expr (next_of c.args.tree.now.records.now c.next-right.ensures c.first-left.ensures) c.expr.ensures h in
           let h2 = used z c.args.r 0 Set c.first-left.ensures c.store.ensures h1 in
           nulled c.args.r c.push_null.ensures h2;
+      sizes = loaded_sizes _ _ _ _ c.push_null.ensures ∙ used_sizes Set _ _ _ c.store.ensures ∙ c.expr.ensures.sizes;
     }
 
 pub import-returns-in-Items : goal.import-returns-in-Items
@@ -713,6 +762,8 @@ import-returns-in-Items t c =
           given (either_no (lent c.args.tree.now) v c.args.r _ _ _ _ (one_stored d _ false q (ap stores_one c.in-Items.is))
           ∙ either_yes (lent c.args.tree.now) v c.args.r _ _ _ _ (items_stored d _ true q (ap has_items c.in-Items.is)) ∙ items_run
           (lent c.args.tree.now) v c.args.r _) (nulled c.args.r c.push_null-in-Items.ensures h3);
+      sizes = loaded_sizes _ _ _ _ c.push_null-in-Items.ensures ∙ pushed_sizes _ _ c.push_code.ensures.2 ∙ c.all.ensures.sizes
+          ∙ loaded_sizes _ _ _ _ c.push_import.ensures;
     }
 
 pub import-returns-in-Simple : goal.import-returns-in-Simple
@@ -726,6 +777,7 @@ import-returns-in-Simple t c =
           (one_stored (word c.args.tree.now.records.now c.args.r 1) _ true c.import_kind.ensures (⊎_elim (λ e. ap stores_one e) (λ e. ap stores_one e) c.in-Simple.is))
           ∙ simple_part (lent c.args.tree.now) v c.args.r (word c.args.tree.now.records.now
           c.args.r 2) _) (nulled c.args.r c.push_null.ensures h2);
+      sizes = loaded_sizes _ _ _ _ c.push_null.ensures ∙ c.simple.ensures.steps.sizes ∙ loaded_sizes _ _ _ _ c.push_import.ensures;
     }
 
 pub import-returns-in-Glob : goal.import-returns-in-Glob
@@ -739,6 +791,7 @@ import-returns-in-Glob t c =
           let h2 = said c.args.r ImportGlob 0 refl refl (sent _ c.push_code-in-Glob.ensures.1 c.push_code-in-Glob.ensures.2) h1 in
           given (either_no (lent c.args.tree.now) v c.args.r _ _ _ _ (one_stored d _ false q (ap stores_one c.in-Glob.is)) ∙ either_no (lent c.args.tree.now) v c.args.r _ _ _ _
           (items_stored d _ false q (ap has_items c.in-Glob.is))) (nulled c.args.r c.push_null-in-Glob.ensures h2);
+      sizes = loaded_sizes _ _ _ _ c.push_null-in-Glob.ensures ∙ pushed_sizes _ _ c.push_code-in-Glob.ensures.2 ∙ loaded_sizes _ _ _ _ c.push_import.ensures;
     }
 
 pub inner-returns-then-not-cx : goal.inner-returns-then-not-cx
@@ -781,6 +834,7 @@ list-returns t c =
           given (visits_part (lent c.args.tree.now) v c.args.r Expr 0 (width (own_tree (children c.args.tree.now.records.now
           c.args.r))) (push_op BuildList (width (own_tree (children c.args.tree.now.records.now c.args.r))) ∷ []) [] A) (said c.args.r
           BuildList _ refl (c.capped.ensures ∙ ap cap w) (sent _ c.push_code.ensures.1 c.push_code.ensures.2) h1);
+      sizes = pushed_sizes _ _ c.push_code.ensures.2 ∙ c.all.ensures.sizes;
     }
 
 pub member-returns-then-is_unlabelled : goal.member-returns-then-is_unlabelled
@@ -792,6 +846,7 @@ member-returns-then-is_unlabelled t c =
           let p = propped z c.args.r (word c.args.tree.now.records.now c.args.r 1 % 8) c.property_of-property.ensures c.prop.ensures h1 in
           let g = got c.args.r (word c.args.tree.now.records.now c.args.r 1 % 8) c.property_of-property.ensures c.push_get.ensures p in
           given (member_bare (lent c.args.tree.now) v c.args.r (t ∙ c.if-is_unlabelled.true) A) (g);
+      sizes = pushed_sizes _ _ c.push_get.ensures ∙ c.prop.ensures.sizes ∙ c.expr.ensures.sizes;
     }
 
 pub member-returns : goal.member-returns
@@ -807,6 +862,8 @@ member-returns t c =
           let g = got c.args.r (word c.args.tree.now.records.now c.args.r 1 % 8) c.property_of-property.ensures c.push_get-2.ensures p in
           let q = g in
           given (member_run (lent c.args.tree.now) v c.args.r (t ∙ c.if-is_unlabelled.false) A) (placed c.args.r _ refl l c.push_label.ensures q);
+      sizes = pushed_sizes _ _ c.push_label.ensures ∙ pushed_sizes _ _ c.push_get-2.ensures ∙ c.prop-2.ensures.sizes
+          ∙ c.push_safe_jump.ensures.jumps.sizes ∙ taken_sizes c.get_label-safe_label.ensures ∙ c.expr.ensures.sizes;
     }
 
 pub multi-returns-then-n-width : goal.multi-returns-then-n-width
@@ -816,6 +873,7 @@ multi-returns-then-n-width t c =
     (record {
       sim = λ z v o₀ A h.
           halted (Refused Lengths c.args.r) c.refuse.ensures h;
+      sizes = stopped_sizes _ _ c.refuse.ensures;
     })
 
 pub multi-loop-init : goal.multi-loop-init
@@ -832,6 +890,7 @@ multi-returns-then-at-r t c =
           (downing_never (lent c.args.tree.now) c.args.r _ c.loop.invariant (omega arith) c.if-at-r.true {f = λ w
           B. does (lent c.args.tree.now) v c.args.r (assign_multi_steps (words c.args.tree.now.records.now c.args.r)
           (own_tree (children c.args.tree.now.records.now c.args.r))) A}).sim z v o₀ _ h1;
+      sizes = c.loop.invariant.sizes ∙ c.all.ensures.sizes;
     }
 
 pub multi-loop-preserved : goal.multi-loop-preserved
@@ -850,6 +909,7 @@ multi-returns t c =
           given (multi_yes (lent c.args.tree.now) v c.args.r c.p-n.ensures (ap (λ (n : ℕ). n + n) (sym c.p-n.ensures) ∙ c.if-n-width.false ∙
           (c.width.ensures ∙ ap (λ (x : ℕ). width (own_tree (forest c.args.tree.now.records.now x))) c.first-left.ensures))
           A) (nulled c.args.r c.push_null.ensures h2);
+      sizes = loaded_sizes _ _ _ _ c.push_null.ensures ∙ c.loop.invariant.sizes ∙ c.all.ensures.sizes;
     }
 
 pub prop-returns-in-Bracket : goal.prop-returns-in-Bracket
@@ -859,6 +919,7 @@ prop-returns-in-Bracket t c =
     (record {
       sim = λ z v o₀ A h.
           visited z Expr (next_of c.args.tree.now.records.now c.next-held.ensures c.first-before.ensures) c.expr.ensures h;
+      sizes = c.expr.ensures.sizes;
     })
 
 pub prop-returns-in-Dot : goal.prop-returns-in-Dot
@@ -871,6 +932,7 @@ prop-returns-in-Dot t c =
       sim = λ z v o₀ A h.
           str_loaded (number_of (ident_at c.args.tree.now.records.now c.args.r 1)) LoadConst (child (own_tree (children c.args.tree.now.records.now c.args.r)) 1).q (property_name
           c.args.tree.now.records.now c.args.r c.first-before.ensures c.next-held.ensures c.name_of-name.ensures) c.push_load_const.ensures h;
+      sizes = loaded_sizes _ _ _ _ c.push_load_const.ensures;
     })
 
 pub prop-returns-in_default : goal.prop-returns-in_default
@@ -898,6 +960,10 @@ repeat-returns t c =
           let i3 = placed c.args.r _ refl m c.push_label-2.ensures i2 in
           let i4 = nulled c.args.r c.push_null.ensures i3 in
           finished c.end_loop.ensures i4;
+      sizes = closed_sizes _ c.end_loop.ensures ∙ loaded_sizes _ _ _ _ c.push_null.ensures ∙ pushed_sizes _ _ c.push_label-2.ensures
+          ∙ pushed_sizes _ _ c.push_code-2.ensures.2 ∙ pushed_sizes _ _ c.push_code.ensures.2 ∙ c.expr.ensures.sizes
+          ∙ pushed_sizes _ _ c.push_label.ensures ∙ opened_sizes _ _ c.begin_loop.ensures ∙ taken_sizes c.get_label-break_label.ensures
+          ∙ taken_sizes c.get_label-continue_label.ensures;
     }
 
 pub rest-returns-then-eq : goal.rest-returns-then-eq
@@ -912,6 +978,7 @@ rest-returns-then-eq t c =
           let h2 = function_loaded c.args.r (word c.args.tree.now.records.now c.args.r 2) c.function_id-function_id.ensures c.push_load_const.ensures h1
           in
           said c.args.r Call 0 refl refl (sent _ c.push_code.ensures.1 c.push_code.ensures.2) h2;
+      sizes = pushed_sizes _ _ c.push_code.ensures.2 ∙ loaded_sizes _ _ _ _ c.push_load_const.ensures ∙ c.inner.ensures.sizes;
     }))
 
 pub rest-returns-else-eq : goal.rest-returns-else-eq
@@ -926,6 +993,7 @@ rest-returns-else-eq t c =
           let h2 = function_loaded c.args.r (word c.args.tree.now.records.now c.args.r 2) c.function_id-function_id.ensures c.push_load_const.ensures h1
           in
           h2;
+      sizes = loaded_sizes _ _ _ _ c.push_load_const.ensures ∙ c.inner.ensures.sizes;
     }))
 
 pub rest-returns-in-Params : goal.rest-returns-in-Params
@@ -945,6 +1013,7 @@ rest-returns-in-Case t c =
     (record {
       sim = λ z v o₀ A h.
           visited z Expr (c.nth-body.ensures ∙ ap₂ (nth c.args.tree.now.records.now) c.p.ensures c.first.ensures) c.expr.ensures h;
+      sizes = c.expr.ensures.sizes;
     })
 
 pub rest-returns-in-Item : goal.rest-returns-in-Item
@@ -964,6 +1033,7 @@ ret-returns-then-is_in_do t c =
       sim = λ z v o₀ A h.
           given (ret_barred (lent c.args.tree.now) v c.args.r (in_do (words c.args.tree.now.records.now c.args.r) c.is_in_do.ensures h ∙ c.if-is_in_do.true) A)
           (bar_yes (words c.args.tree.now.records.now c.args.r) c.is_in_do.ensures h c.if-is_in_do.true c.cut.ensures);
+      sizes = stopped_sizes _ _ c.cut.ensures;
     }
 
 pub ret-call-requires : goal.ret-call-requires
@@ -983,6 +1053,7 @@ ret-returns-then-is_tail t c =
           c.is_tail.ensures ∙ c.if-is_tail.true)).0 (tail_call c.args.tree.now.records.now _ (sym c.is_tail.ensures ∙ c.if-is_tail.true)).1 A) c.call.ensures) h2 in
           given (ret_tail (lent c.args.tree.now) v c.args.r (ap (λ (x : ℕ). is_tail (own_tree (forest c.args.tree.now.records.now x))) (sym
           c.first-argument.ensures) ∙ sym c.is_tail.ensures ∙ c.if-is_tail.true) A) (nulled c.args.r c.push_null.ensures h3);
+      sizes = loaded_sizes _ _ _ _ c.push_null.ensures ∙ c.call.ensures.sizes ∙ (c.push_return_label.ensures.moves c.args.tree.now.records.now c.args.r).sizes;
     }
 
 pub ret-returns : goal.ret-returns
@@ -995,6 +1066,8 @@ ret-returns t c =
           let h4 = said c.args.r Return 0 refl refl (sent _ c.push_code.ensures.1 c.push_code.ensures.2) h3 in
           given (ret_plain (lent c.args.tree.now) v c.args.r (ap (λ (x : ℕ). is_tail (own_tree (forest c.args.tree.now.records.now x))) (sym
           c.first-argument.ensures) ∙ sym c.is_tail.ensures ∙ c.if-is_tail.false) A) (nulled c.args.r c.push_null-2.ensures h4);
+      sizes = loaded_sizes _ _ _ _ c.push_null-2.ensures ∙ pushed_sizes _ _ c.push_code.ensures.2 ∙ c.expr.ensures.sizes
+          ∙ (c.push_return_label.ensures.moves c.args.tree.now.records.now c.args.r).sizes;
     }
 
 pub short_circuit-returns : goal.short_circuit-returns
@@ -1008,6 +1081,8 @@ short_circuit-returns t c =
           let h3 = jumped c.args.r (short_jump c.args.operator) _ refl l c.push_short_jump.ensures h2 in
           let h4 = visited z Expr (next_of c.args.tree.now.records.now c.next-right.ensures c.first-left.ensures) c.expr-2.ensures h3 in
           placed c.args.r _ refl l c.push_label.ensures h4;
+      sizes = pushed_sizes _ _ c.push_label.ensures ∙ c.expr-2.ensures.sizes ∙ pushed_sizes _ _ c.push_short_jump.ensures ∙ c.expr.ensures.sizes
+          ∙ taken_sizes c.get_label-label.ensures;
     }
 
 pub short-returns : goal.short-returns
@@ -1023,6 +1098,8 @@ short-returns t c =
           let h5 = placed c.args.r _ refl l c.push_label.ensures h4 in
           let h6 = visited z After c.first-left.ensures c.after.ensures.visits h5 in
           nulled c.args.r c.push_null.ensures h6;
+      sizes = loaded_sizes _ _ _ _ c.push_null.ensures ∙ c.after.ensures.visits.sizes ∙ pushed_sizes _ _ c.push_label.ensures ∙ c.expr.ensures.sizes
+          ∙ pushed_sizes _ _ c.push_short_jump.ensures ∙ c.fetch.ensures.sizes ∙ taken_sizes c.get_label-label.ensures;
     }
 
 pub table-returns : goal.table-returns
@@ -1035,6 +1112,7 @@ table-returns t c =
           given (visits_part (lent c.args.tree.now) v c.args.r Expr 0 (width (own_tree (children c.args.tree.now.records.now
           c.args.r))) (push_op BuildTable (width (own_tree (children c.args.tree.now.records.now c.args.r)) / 2) ∷ []) [] A) (said c.args.r
           BuildTable _ refl (c.capped.ensures ∙ ap (λ (n : ℕ). cap (n / 2)) w) (sent _ c.push_code.ensures.1 c.push_code.ensures.2) h1);
+      sizes = pushed_sizes _ _ c.push_code.ensures.2 ∙ c.all.ensures.sizes;
     }
 
 pub target-returns-then-left-eq0 : goal.target-returns-then-left-eq0
@@ -1053,6 +1131,7 @@ target-returns-then-detail-eq-PLAIN t c =
     (record {
       sim = λ z v o₀ A h.
           used z c.args.left 0 Set c.first-ident.ensures c.store.ensures h;
+      sizes = used_sizes Set _ _ _ c.store.ensures;
     })
 
 pub target-returns : goal.target-returns
@@ -1065,6 +1144,8 @@ target-returns t c =
           let h3 = was_set c.args.left (word c.args.tree.now.records.now c.args.left 1 - 1) c.left_property-property.ensures c.push_set.ensures h2 in
           given (target_member (lent c.args.tree.now) v c.args.left c.if-left-eq0.false (same_kind _ _ kind.Left _ c.kind.ensures c.ne.ensures tt c.if-ne.false) (λ e.
           c.if-detail-eq-PLAIN.false (c.detail.ensures ∙ e)) A) (used z c.args.left 0 Set c.first-ident.ensures c.store-2.ensures h3);
+      sizes = used_sizes Set _ _ _ c.store-2.ensures ∙ pushed_sizes _ _ c.push_set.ensures ∙ c.prop.ensures.sizes
+          ∙ used_sizes Get _ _ _ c.load.ensures;
     }
 
 pub unpack-loop-i-init : goal.unpack-loop-i-init
@@ -1083,17 +1164,19 @@ unpack-loop-i-preserved t c =
           let h1 = int_loaded c.args.r _ refl c.push_load_const.ensures h in
           let h2 = said c.args.r GetItem 0 refl refl (sent _ c.push_code.ensures.1 c.push_code.ensures.2) h1 in
           visited z Target refl c.target.ensures h2;
+      sizes = c.target.ensures.sizes ∙ pushed_sizes _ _ c.push_code.ensures.2 ∙ loaded_sizes _ _ _ _ c.push_load_const.ensures;
     })
 
 pub unpack-returns : goal.unpack-returns
 unpack-returns t c =
+    let u = unpacking_end (lent c.args.tree.now) c.args.r _ c.loop-i.invariant c.loop-i-test.false in
     record {
       sim = λ z v o₀ A h.
           let h1 = visited z Expr (c.nth-right.ensures ∙ ap₂ (nth c.args.tree.now.records.now) c.p-n.ensures c.first-left.ensures) c.expr.ensures h in
           let h2 = (c.copies.ensures.moves _ c.args.r).moves v o₀ _ h1 in
-          let h3 = (unpacking_end (lent c.args.tree.now) c.args.r _ c.loop-i.invariant c.loop-i-test.false).sim z v o₀ _ h2
-          in
+          let h3 = u.sim z v o₀ _ h2 in
           given (unpack_run (lent c.args.tree.now) v c.args.r c.p-n.ensures A) (nulled c.args.r c.push_null.ensures h3);
+      sizes = loaded_sizes _ _ _ _ c.push_null.ensures ∙ u.sizes ∙ (c.copies.ensures.moves c.args.tree.now.records.now c.args.r).sizes ∙ c.expr.ensures.sizes;
     }
 
 pub update-returns-then-is_short_assign : goal.update-returns-then-is_short_assign
@@ -1115,6 +1198,8 @@ update-returns t c =
           c.binary_operator-operator.ensures (own_tree (children c.args.tree.now.records.now c.args.r))) ∙ ap (λ (x : ℕ). short_assign c.binary_operator-operator.result
           (own_tree (forest c.args.tree.now.records.now x))) (sym c.first-left.ensures) ∙ sym c.is_short_assign.ensures ∙ c.if-is_short_assign.false) A) (nulled c.args.r
           c.push_null.ensures h4);
+      sizes = loaded_sizes _ _ _ _ c.push_null.ensures ∙ c.after.ensures.visits.sizes ∙ operated_sizes _ _ _ c.push_binary.ensures ∙ c.expr.ensures.sizes
+          ∙ c.fetch.ensures.sizes;
     }
 
 pub whilst-returns : goal.whilst-returns
@@ -1136,4 +1221,8 @@ whilst-returns t c =
           let i3 = placed c.args.r _ refl m c.push_label-2.ensures i2 in
           let i4 = nulled c.args.r c.push_null.ensures i3 in
           finished c.end_loop.ensures i4;
+      sizes = closed_sizes _ c.end_loop.ensures ∙ loaded_sizes _ _ _ _ c.push_null.ensures ∙ pushed_sizes _ _ c.push_label-2.ensures
+          ∙ pushed_sizes _ _ c.push_code-3.ensures.2 ∙ pushed_sizes _ _ c.push_code-2.ensures.2 ∙ c.expr-2.ensures.sizes
+          ∙ pushed_sizes _ _ c.push_code.ensures.2 ∙ c.expr.ensures.sizes ∙ pushed_sizes _ _ c.push_label.ensures ∙ opened_sizes _ _ c.begin_loop.ensures
+          ∙ taken_sizes c.get_label-break_label.ensures ∙ taken_sizes c.get_label-continue_label.ensures;
     }

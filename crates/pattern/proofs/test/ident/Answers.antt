@@ -1,3 +1,4 @@
+use Rattle.context.proofs.SizeLaws.{pushed_sizes, used_sizes}
 use Rattle.context.proofs.MarkLaws.{sent, jumped}
 use Rattle.context.proofs.StayLaws.{push_stays, use_stays}
 use Rattle.context.specs.Rep.{lent_words}
@@ -17,5 +18,7 @@ returns-clause-tests c =
         moves = λ v o₀ A h.
             let h1 = jumped r JumpPopIfNull y refl e (sent _ c.push_code.ensures.1 c.push_code.ensures.2) h in
             used_at (lent_words recs c.args.tree.now.notes.now) r Set c.args.pattern c.store.ensures h1;
+        sizes = used_sizes Set _ _ _ c.store.ensures ∙ pushed_sizes _ _ c.push_code.ensures.2;
       };
+      sizes = used_sizes Set _ _ _ c.store.ensures ∙ pushed_sizes _ _ c.push_code.ensures.2;
     }

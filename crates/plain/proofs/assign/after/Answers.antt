@@ -1,3 +1,4 @@
+use Rattle.context.proofs.SizeLaws.{used_sizes}
 use mathlib.Core.Path.{refl}
 use Rattle.tables.proofs.KindLaws.{other_kind, same_kind}
 use Rattle.tables.specs.declared.kind.Kind.TheVariants as kind
@@ -26,7 +27,7 @@ pub returns-then-detail-eq-PLAIN-clause-visits : goal.returns-then-detail-eq-PLA
 returns-then-detail-eq-PLAIN-clause-visits c =
     resim (λ m z A. after_plain (lent c.args.tree.now) m c.args.left c.if-left-eq0.false _ refl _ _ (same_kind _ _ kind.Left _ c.kind.ensures c.ne.ensures tt c.if-ne.false)
     c.detail.ensures c.first-ident.ensures c.if-detail-eq-PLAIN.true A)
-    (record { sim = λ z m o₀ A h. used_at (lent c.args.tree.now) c.args.left Set _ c.store.ensures h })
+    (record { sim = λ z m o₀ A h. used_at (lent c.args.tree.now) c.args.left Set _ c.store.ensures h; sizes = used_sizes Set _ _ _ c.store.ensures })
 
 pub returns-then-detail-eq-PLAIN-clause-consts : goal.returns-then-detail-eq-PLAIN-clause-consts
 returns-then-detail-eq-PLAIN-clause-consts c = use_stays Set _ _ _ c.store.ensures
@@ -40,4 +41,5 @@ returns-clause-visits c =
     c.detail.ensures c.first-ident.ensures c.if-detail-eq-PLAIN.false c.left_property.ensures A)
     (record {
       sim = λ z m o₀ A h. used_at (lent c.args.tree.now) c.args.left Set _ c.store-2.ensures ((c.set_member.ensures.moves c.args.tree.now.records.now c.args.left).moves m o₀ A h);
+      sizes = used_sizes Set _ _ _ c.store-2.ensures ∙ (c.set_member.ensures.moves c.args.tree.now.records.now c.args.left).sizes;
     })

@@ -1,3 +1,4 @@
+use Rattle.context.proofs.SizeLaws.{pushed_sizes}
 use Rattle.context.proofs.MarkLaws.{sent, said}
 use Rattle.context.proofs.StayLaws.{push_stays}
 use Rattle.context.proofs.RepLaws.{given}
@@ -19,6 +20,7 @@ returns-then-is_meta-clause-moves c =
           given (ap (λ (b : Bool). emit (mark r (Do (set_code (member_number c.args.property)) 0)) (emit (mark r (Do Swap 2)) (cond b A (emit (mark r (Do Swap
           3)) A)))) (sym c.is_meta.ensures ∙ c.if-is_meta.true)) (said r (set_code (member_number c.args.property)) 0 refl refl (push_as _ (set_own c.args.property)
           c.push_set.ensures) h1);
+      sizes = pushed_sizes _ _ c.push_set.ensures ∙ pushed_sizes _ _ c.push_code.ensures.2;
     }
 
 pub returns-then-is_meta-clause-consts : goal.returns-then-is_meta-clause-consts
@@ -36,4 +38,5 @@ returns-clause-moves c =
           given (ap (λ (b : Bool). emit (mark r (Do (set_code (member_number c.args.property)) 0)) (emit (mark r (Do Swap 2)) (cond b A (emit (mark r (Do Swap
           3)) A)))) (sym c.is_meta.ensures ∙ c.if-is_meta.false)) (said r (set_code (member_number c.args.property)) 0 refl refl (push_as _ (set_own c.args.property)
           c.push_set-2.ensures) h2);
+      sizes = pushed_sizes _ _ c.push_set-2.ensures ∙ pushed_sizes _ _ c.push_code-3.ensures.2 ∙ pushed_sizes _ _ c.push_code-2.ensures.2;
     }

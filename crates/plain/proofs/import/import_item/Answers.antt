@@ -1,3 +1,4 @@
+use Rattle.context.proofs.SizeLaws.{loaded_sizes, used_sizes}
 use Prim.Native.Nat.{ℕ}
 use Rattle.context.specs.Does.{does, doing, nth}
 use Rattle.context.specs.Rep.{lent}
@@ -25,4 +26,5 @@ returns c =
           used_child (lent c.args.tree.now) c.args.item Set (cond (eqb (word c.args.tree.now.records.now c.args.item 1) 1) 1
           0) (c.alias.ensures ∙ ap (nth c.args.tree.now.records.now (cond (eqb (word c.args.tree.now.records.now c.args.item 1) 1) 1 0)) c.first-name.ensures)
           c.store.ensures h1;
+      sizes = used_sizes Set _ _ _ c.store.ensures ∙ loaded_sizes _ _ _ _ c.push_import_from.ensures;
     }

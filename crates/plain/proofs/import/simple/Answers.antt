@@ -1,3 +1,4 @@
+use Rattle.context.proofs.SizeLaws.{stopped_sizes, used_sizes}
 use Prim.Native.Nat.{◌-◌, ℕ}
 use Rattle.context.proofs.Basics.{on_false, on_true}
 use Rattle.context.proofs.RepLaws.{given, halted}
@@ -21,6 +22,7 @@ returns-then-n-eq0-clause-steps c =
     record {
       sim = λ z m o₀ A h. given (simple_none (lent c.args.tree.now) m c.args.r _ (sym c.p-n.ensures ∙ c.if-n-eq0.true) A) (halted (Refused Path
           c.args.r) c.refuse.ensures h);
+      sizes = stopped_sizes _ _ c.refuse.ensures;
     }
 
 pub returns-then-eq-clause-consts : goal.returns-then-eq-clause-consts
@@ -33,6 +35,7 @@ returns-then-eq-clause-steps c =
           (c.saturating_sub.ensures ∙ ap (λ (k : ℕ). k - 1) c.p-n.ensures
           ∙ sym (on_true _ _ _ (sym (is_simple (word c.args.tree.now.records.now c.args.r 1) _ _ c.import_kind.ensures c.eq.ensures) ∙ c.if-eq.true))) c.nth.ensures A)
           (used_at (lent c.args.tree.now) c.args.r Set _ c.store.ensures h);
+      sizes = used_sizes Set _ _ _ c.store.ensures;
     }
 
 pub returns-clause-consts : goal.returns-clause-consts
@@ -45,4 +48,5 @@ returns-clause-steps c =
           (c.p-n.ensures ∙ sym (on_false _ _ _ (sym (is_simple (word c.args.tree.now.records.now c.args.r 1) _ _ c.import_kind.ensures c.eq.ensures) ∙ c.if-eq.false)))
           c.nth-2.ensures A)
           (used_at (lent c.args.tree.now) c.args.r Set _ c.store-2.ensures h);
+      sizes = used_sizes Set _ _ _ c.store-2.ensures;
     }

@@ -1,7 +1,8 @@
+use Rattle.context.proofs.SizeLaws.{pushed_sizes, loaded_sizes}
 use Rattle.context.proofs.MarkLaws.{sent, said}
 use Rattle.plain.proofs.LeafLaws.{int_loaded}
 use Rattle.rules.specs.Marker.{Copy, GetItem}
-use mathlib.Core.Path.{refl}
+use mathlib.Core.Path.{◌∙◌, refl}
 use Rattle.plain.proofs.item.push_item.Goals as goal
 
 pub returns : goal.returns
@@ -10,5 +11,6 @@ returns c =
       moves = λ r q. record {
         moves = λ m o₀ A h. said r GetItem 0 refl refl (sent _ c.push_code-2.ensures.1 c.push_code-2.ensures.2) (int_loaded q c.args.i refl c.push_load_const.ensures (said r Copy 1
             refl refl (sent _ c.push_code.ensures.1 c.push_code.ensures.2) h));
+        sizes = pushed_sizes _ _ c.push_code-2.ensures.2 ∙ loaded_sizes _ _ _ _ c.push_load_const.ensures ∙ pushed_sizes _ _ c.push_code.ensures.2;
       };
     }

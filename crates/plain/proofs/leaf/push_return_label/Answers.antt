@@ -1,3 +1,4 @@
+use Rattle.context.proofs.SizeLaws.{pushed_sizes, taken_sizes}
 use Rattle.context.proofs.MarkLaws.{sent, jumped, placed}
 use Rattle.context.proofs.RepLaws.{given, label, labelled}
 use Rattle.context.proofs.StayLaws.{push_stays, take_stays}
@@ -22,4 +23,5 @@ returns-then-eq-clause-moves c =
           let h2 = jumped r Jump _ refl l (sent _ c.push_code.ensures.1 c.push_code.ensures.2) h1 in
           let h3 = placed r _ refl l c.push_label.ensures h2 in
           given (ap (λ (s : StackCode). return_run s r A) (sym h.stack ∙ same_true the_type tt _ Code1 (sym c.if-eq.ensures))) h3;
+      sizes = pushed_sizes _ _ c.push_label.ensures ∙ pushed_sizes _ _ c.push_code.ensures.2 ∙ taken_sizes c.get_label-return_label.ensures;
     }

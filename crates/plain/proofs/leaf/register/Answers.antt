@@ -1,3 +1,4 @@
+use Rattle.context.proofs.SizeLaws.{pushed_sizes, taken_sizes, used_sizes}
 use Prim.Native.Nat.{ℕ}
 use Rattle.context.proofs.MarkLaws.{sent, jumped}
 use Rattle.context.proofs.RepLaws.{given, label, labelled}
@@ -25,4 +26,5 @@ returns-clause-moves c =
           let h3 = jumped r RegisterHandler (labels A) refl l (sent _ c.push_code.ensures.1 c.push_code.ensures.2) h2 in
           given (ap (λ (i : ℕ). emit (mark r (To RegisterHandler (labels A))) (use_at (lent c.args.tree.now) r Get i (bump A))) (sym
           c.first_child-effect.ensures)) h3;
+      sizes = pushed_sizes _ _ c.push_code.ensures.2 ∙ used_sizes Get _ _ _ c.load.ensures ∙ taken_sizes c.get_label-handler_label.ensures;
     }

@@ -1,3 +1,4 @@
+use Rattle.context.proofs.SizeLaws.{pushed_sizes}
 use Prim.Native.Nat.{ℕ}
 use Rattle.context.proofs.Basics.{on_false}
 use Rattle.context.proofs.MarkLaws.{sent, jumped}
@@ -18,5 +19,7 @@ returns-clause-jumps c =
       moves = λ a q. record {
         moves = λ m o₀ A h. given (on_false _ _ _ (ap (λ (d : ℕ). ltb d 8) (sym c.detail.ensures) ∙ le-ltb _ 8 c.if-detail-lt-SAFE.false))
             (jumped c.args.r JumpPopIfNull a refl q (sent _ c.push_code.ensures.1 c.push_code.ensures.2) h);
+        sizes = pushed_sizes _ _ c.push_code.ensures.2;
       };
+      sizes = pushed_sizes _ _ c.push_code.ensures.2;
     }
