@@ -11,7 +11,7 @@ def crates(rev):
 def functions(rev, crate):
     """name -> list of (head, place); public ones, and methods of trait impls"""
     found = []
-    for f in files(rev, rf"crates/{crate}/src/.*\.rt$"):
+    for f in files(rev, rf"crates/{crate}/src/(?!tests\.rt).*\.rt$"):
         text = git("show", f"{rev}:{f}")
         mod = os.path.basename(f)[:-3]
         text = re.sub(r"//[^\n]*", "", text)

@@ -12,7 +12,7 @@ def git(*args):
 for rev in sys.argv[1:]:
     wide = whole = 0
     for path in git("ls-tree", "-r", "--name-only", rev).splitlines():
-        if re.match(r"crates/[^/]*/src/.*\.rt$", path):
+        if re.match(r"crates/[^/]*/src/(?!tests\.rt).*\.rt$", path):
             for head in re.finditer(r"\bfn \w+(?:<[^(]*>)?\(([^)]*)\)", git("show", f"{rev}:{path}")):
                 count = sum(1 for part in head.group(1).split(",") if part.strip())
                 whole += 1

@@ -8,7 +8,7 @@ use codegen::call::{Answer, gen_code};
 use codegen::outputs::Outputs;
 use replay::case::{Case, narrow};
 use replay::print::{refused, unreadable};
-use replay::run::{Show, each_case};
+use replay::run::{PrintCase, print_each_case};
 use tables::refusal::Refusal;
 use tables::semantic::entry;
 use tables::slices::{front, rest};
@@ -135,7 +135,7 @@ fn with_outputs<'a>(rt: &impl Print, case: Case<'a>, bytes: &'a [u8]) {
 #[derive(Clone, Copy)]
 struct Calls;
 
-impl Show for Calls {
+impl PrintCase for Calls {
     fn show<R: Print>(&self, rt: &R, case: Case) {
         let mut bytes = [0u8; BYTES];
         let words = case.table(1);
@@ -148,5 +148,5 @@ impl Show for Calls {
 }
 
 fn main(rt: HostRuntime) {
-    each_case(&rt, NUMBERS, &Calls);
+    print_each_case(&rt, NUMBERS, &Calls);
 }

@@ -1,10 +1,11 @@
 // A case in words: first its numbers, of which the first seven are the lengths of tables 1 to 7, then the words of these tables.
-ghost use Rattle.std.specs.Prelude.{◌≡◌, true, ◌+◌, ◌<◌, min, length, get_or, take, drop, ◌≤◌};
+ghost use Rattle.std.specs.Prelude.{◌≡◌, true, ◌+◌, ◌<◌, min, length, get_or, take, drop, is_some, IfOk, IfSome, ◌≤◌};
 ghost use Rattle.std.specs.Option.{SomeIff};
 ghost use Rattle.std.specs.Iterator.{at_most};
 ghost use Rattle.replay.specs.Case.{start as start_of, table as table_of, are_bytes, laid};
 ghost use Rattle.replay.specs.Cases.{Next};
 
+use std::alloc::{AllocError, Global};
 use tables::lent::Tables;
 use tables::semantic::entry;
 use tables::slices::{front, rest};
@@ -129,4 +130,16 @@ pub fn narrow(words: &[u32], bytes: &mut [u8]) -> bool
         bytes[k] = value;
     }
     true
+}
+
+// The same into memory of their own, where they are no more than there is room for.
+pub fn narrowed(alloc: Global, words: &[u32], room: usize) -> Result<Option<Vec<u8>>, AllocError>
+    ensures answer { IfOk result (λ bytes. is_some bytes ≡ are_bytes words.now room) }
+    ensures written { IfOk result (λ bytes. IfSome bytes (λ b. b.items ≡ words.now)) }
+{
+    if room < words.len() {
+        return Ok(None);
+    }
+    let mut bytes = vec![in alloc; 0u8; words.len()]?;
+    Ok(narrow(words, &mut bytes).then_some(bytes))
 }

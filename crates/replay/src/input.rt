@@ -1,5 +1,10 @@
-// The words of a program's input: decimal numbers with a space or the end of a line between.
-ghost use Rattle.std.specs.Prelude.{◌≤◌, IfSome, length};
+// The words of a program's input: decimal numbers with a space or the end of a line between. They come into lent words, or into memory of their own.
+ghost use Rattle.std.specs.Prelude.{◌≤◌, IfOk, IfSome, length, vec_len};
+
+use std::alloc::{AllocError, Global};
+
+// More words are no input.
+pub(crate) const MOST: usize = 458752;
 
 const STDIN_FILENO: i32 = 0;
 
@@ -80,4 +85,34 @@ pub fn read(words: &mut [u32]) -> Option<usize>
     }
     let scan = scan.ended(words);
     (scan.good && last == 0 && scan.count <= words.len()).then_some(scan.count)
+}
+
+fn is_of_words(text: &str) -> bool {
+    text.bytes()
+        .all(|b| b.is_ascii_digit() || b == b' ' || b == b'\n')
+}
+
+// The numbers of a text in memory of their own, if it has nothing else, each is a word, and they are not too many.
+pub fn words(alloc: Global, text: &str) -> Result<Option<Vec<u32>>, AllocError>
+    ensures { IfOk result (λ found. IfSome found (λ words. vec_len words ≤ MOST)) }
+{
+    let mut words = Vec::new(alloc);
+    if !is_of_words(text) {
+        return Ok(None);
+    }
+    for number in text.split_ascii_whitespace() {
+        let Ok(word) = number.parse::<u32>() else {
+            return Ok(None);
+        };
+        words.push(word)?;
+    }
+    Ok((words.len() <= MOST).then_some(words))
+}
+
+// The words of all that the runtime's reader gives; which they are no contract can say.
+pub fn read_to_words(rt: &(impl Input + AllocGlobal)) -> std::io::Result<Option<Vec<u32>>>
+    ensures { IfOk result (λ found. IfSome found (λ words. vec_len words ≤ MOST)) }
+{
+    let text = std::io::read_to_string(rt.alloc(), rt.reader())?;
+    Ok(words(rt.alloc(), text.as_str())?)
 }

@@ -5,3 +5,5 @@ pub mod case;
 pub mod input;
 pub mod print;
 pub mod run;
+#[cfg(test)]
+mod tests;

@@ -3,7 +3,7 @@
 
 use replay::case::{Case, narrow};
 use replay::print::{refused, unreadable};
-use replay::run::{Show, each_case};
+use replay::run::{PrintCase, print_each_case};
 use tables::check::check;
 use tables::refusal::Refusal;
 use tables::slices::front;
@@ -27,7 +27,7 @@ fn answer(rt: &impl Print, checked: Result<(), Refusal>) {
 #[derive(Clone, Copy)]
 struct Checks;
 
-impl Show for Checks {
+impl PrintCase for Checks {
     fn show<R: Print>(&self, rt: &R, case: Case) {
         let mut bytes = [0u8; BYTES];
         let words = case.table(1);
@@ -41,5 +41,5 @@ impl Show for Checks {
 }
 
 fn main(rt: HostRuntime) {
-    each_case(&rt, NUMBERS, &Checks);
+    print_each_case(&rt, NUMBERS, &Checks);
 }
